@@ -2,11 +2,11 @@
 -- Assumes nothing.
 use Prim.Native.Nat.{ℕ, zero, suc, _+_, _*_, _/_, _%_, _^_, _≤_}
 use mathlib.Core.Path.{_≡_, refl, sym, ap, ap₂, _∙_}
-use mathlib.Core.List.{List, [], _∷_, _++_, append-assoc}
+use mathlib.Core.List.{List, _∷_, _++_, append-assoc}
 use native.Mathlib.Omega.{arith}
-use native.Mathlib.Nat.{add-zero, zero-add, suc-add, one-mul, mul-add, mul-assoc, mul-comm, pow-suc, div-one, div-div-eq-div-mul}
-use lib.ListN.{length, take, drop, getD, length-append, length-drop}
-use lib.Seq.{take-at, drop-at, length-take-le, drop-drop, drop-append-add}
+use native.Mathlib.Nat.{add-zero, zero-add, suc-add, mul-assoc, mul-comm, pow-suc, div-one, div-div-eq-div-mul}
+use lib.ListN.{length, take, drop, length-append}
+use lib.Seq.{take-at, length-take-le, drop-drop, drop-append-add}
 use Rattle.words.specs.Words.{numberAt, littleEndian, replaced}
 
 pub number-split : (b : List ℕ) (o j k : ℕ) → numberAt b o (j + k) ≡ numberAt b o j + 256 ^ j * numberAt b (o + j) k
@@ -16,7 +16,7 @@ number-split b o (suc j) k =
     let r = number-split b (o + 1) j k in
     let q : o + suc j ≡ o + 1 + j = omega arith in
     let p : 256 ^ suc j * numberAt b (o + 1 + j) k ≡ 256 * (256 ^ j * numberAt b (o + 1 + j) k) =
-        rw (pow-suc, mul-comm (256 ^ j) 256, mul-assoc) in
+    rw (pow-suc, mul-comm (256 ^ j) 256, mul-assoc) in
     rw (suc-add, q) (omega arith)
 
 -- numbers that differ by a multiple of 256 ^ j have the same `j` low bytes
@@ -44,12 +44,12 @@ replaced-twice b o j k x y e h =
     let n : length (take o b ++ x) ≡ o + j = length-append (take o b) x ∙ ap₂ (λ (i m : ℕ). i + m) (length-take-le o b (omega arith)) e in
     let q : o + j + k ≡ o + (j + k) = omega arith in
     let t : take (o + j) (replaced b o j x) ≡ take o b ++ x =
-        take-at (take o b ++ x) (drop (o + j) b) (o + j) n in
+    take-at (take o b ++ x) (drop (o + j) b) (o + j) n in
     let d : drop (o + j + k) (replaced b o j x) ≡ drop (o + (j + k)) b =
-        ap (λ (m : ℕ). drop (m + k) (take o b ++ x ++ drop (o + j) b)) (sym n)
-        ∙ drop-append-add (take o b ++ x) (drop (o + j) b) k
-        ∙ drop-drop k (o + j) b
-        ∙ ap (λ (m : ℕ). drop m b) q in
+    ap (λ (m : ℕ). drop (m + k) (take o b ++ x ++ drop (o + j) b)) (sym n)
+    ∙ drop-append-add (take o b ++ x) (drop (o + j) b) k
+    ∙ drop-drop k (o + j) b
+    ∙ ap (λ (m : ℕ). drop m b) q in
     rw (t, d) (simp append-assoc)
 
 -- storing the low `j` bytes' number and then the rest stores the number

@@ -1,42 +1,33 @@
+-- `words::load_u32` meets its contract: the law of loads at 2 and 2 bytes.
+-- Assumes nothing.
 use borrow.Author.Needs.{needs}
 use native.Mathlib.Omega.{arith}
 use denote.Ref.{now}
 use Rattle.words.proofs.Widths.{number-split}
 use Rattle.words.proofs.load_u32.Statement.{statement}
 use Rattle.words.proofs.load_u32.Tie as tie
-use Rattle.words.proofs.load_u32.Reads as reads
-use Rattle.words.proofs.load_u32.Lts as lts
-use Rattle.words.proofs.load_u16.Reads as load-u16-reads
 
--- src/lib.rt:25:15
 load-u16-requires : tie.Need-load-u16-requires
 load-u16-requires c κs = search needs
 
--- src/lib.rt:25:15
 cast-low : tie.Need-cast-low
 cast-low c = search needs
 
--- src/lib.rt:26:32
 add-load-u16 : tie.Need-add-load-u16
 add-load-u16 c = search needs
 
--- src/lib.rt:26:16
 load-u16-requires-2 : tie.Need-load-u16-requires-2
 load-u16-requires-2 c κs = search needs
 
--- src/lib.rt:26:16
 cast-high : tie.Need-cast-high
 cast-high c = search needs
 
--- src/lib.rt:27:11
 mul-result : tie.Need-mul-result
 mul-result c = search needs
 
--- src/lib.rt:27:5
 add-result : tie.Need-add-result
 add-result c = search needs
 
--- src/lib.rt:21:1
 returns : tie.Need-returns
 returns c = let a = c .before .before .before .args in omega (arith, number-split (now (a .bytes)) (a .at) 2 2)
 

@@ -1,3 +1,5 @@
+-- `words::store_u16` meets its contract: two bytes set are two bytes replaced.
+-- Assumes nothing.
 use borrow.Author.Needs.{needs}
 use native.Mathlib.Omega.{arith}
 use native.Mathlib.Numerals.{add-one}
@@ -6,34 +8,25 @@ use lib.ListN.{length-set}
 use lib.Seq.{sets-eq}
 use Rattle.words.proofs.store_u16.Statement.{statement}
 use Rattle.words.proofs.store_u16.Tie as tie
-use Rattle.words.proofs.store_u16.Reads as reads
-use Rattle.words.proofs.store_u16.Lts as lts
 
--- src/lib.rt:43:17
 cast-bytes : tie.Need-cast-bytes
 cast-bytes c = search needs
 
--- src/lib.rt:43:5
 slice-write-bytes : tie.Need-slice-write-bytes
 slice-write-bytes c = search needs
 
--- src/lib.rt:44:21
 cast-bytes-2 : tie.Need-cast-bytes-2
 cast-bytes-2 c = search needs
 
--- src/lib.rt:44:11
 add-bytes : tie.Need-add-bytes
 add-bytes c = search needs
 
--- src/lib.rt:44:5
 slice-write-bytes-2 : tie.Need-slice-write-bytes-2
 slice-write-bytes-2 c = simp length-set (omega arith)
 
--- src/lib.rt:39:1
 same-length : tie.Need-same-length
 same-length c = search needs
 
--- src/lib.rt:39:1
 returns : tie.Need-returns
 returns c = rw add-one (sets-eq (_ ∷ _ ∷ []) _ _ (c .pre))
 

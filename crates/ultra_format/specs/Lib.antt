@@ -1,0 +1,9 @@
+pub mod Refusals
+pub mod Answers
+pub mod Contexts
+pub mod Layouts
+pub mod Members
+pub mod Rules
+pub mod Plain
+pub mod Places
+pub mod Decoding

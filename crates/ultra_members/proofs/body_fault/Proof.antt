@@ -1,0 +1,72 @@
+-- `ultra_members::body_fault` meets its contract: each arm's answer is that of the body that its type decodes to.
+-- Assumes nothing.
+use mathlib.Core.Path.{refl, _∙_}
+use native.Mathlib.Omega.{arith}
+use borrow.Author.Needs.{needs}
+use Rattle.ultra_format.specs.Decoding.{decoded}
+use Rattle.ultra_members.proofs.Bodies.{of-type, of-other}
+use Rattle.ultra_members.proofs.body_fault.Statement.{statement}
+use Rattle.ultra_members.proofs.body_fault.Tie as tie
+
+fault-requires : tie.Need-fault-requires
+fault-requires c κs = search needs
+
+fault-requires-2 : tie.Need-fault-requires-2
+fault-requires-2 c κs = search needs
+
+fault-requires-3 : tie.Need-fault-requires-3
+fault-requires-3 c κs = search needs
+
+fault-requires-4 : tie.Need-fault-requires-4
+fault-requires-4 c κs = search needs
+
+fault-requires-5 : tie.Need-fault-requires-5
+fault-requires-5 c κs = search needs
+
+fault-requires-6 : tie.Need-fault-requires-6
+fault-requires-6 c κs = search needs
+
+returns : tie.Need-returns
+unfolding decoded
+returns c = c .fault .ensures ∙ of-type _ _ _ (c .before .match .keys1) refl
+
+returns-2 : tie.Need-returns-2
+unfolding decoded
+returns-2 c = c .fault2 .ensures ∙ of-type _ _ _ (c .before .match .keys2) refl
+
+returns-3 : tie.Need-returns-3
+unfolding decoded
+returns-3 c = c .fault3 .ensures ∙ of-type _ _ _ (c .before .match .keys3) refl
+
+returns-4 : tie.Need-returns-4
+unfolding decoded
+returns-4 c = c .fault4 .ensures ∙ of-type _ _ _ (c .before .match .keys4) refl
+
+returns-5 : tie.Need-returns-5
+unfolding decoded
+returns-5 c = c .fault5 .ensures ∙ of-type _ _ _ (c .before .match .keys5) refl
+
+returns-6 : tie.Need-returns-6
+unfolding decoded
+returns-6 c = c .fault6 .ensures ∙ of-type _ _ _ (c .before .match .keys6) refl
+
+returns-7 : tie.Need-returns-7
+returns-7 c = of-other _ _ _ _ (omega arith) (omega arith) (omega arith) (omega arith) (omega arith) (omega arith)
+
+pub body-fault-spec : {M : Type 1} → statement M
+body-fault-spec =
+    tie.close
+    (tie.spec
+    fault-requires
+    fault-requires-2
+    fault-requires-3
+    fault-requires-4
+    fault-requires-5
+    fault-requires-6
+    returns
+    returns-2
+    returns-3
+    returns-4
+    returns-5
+    returns-6
+    returns-7)

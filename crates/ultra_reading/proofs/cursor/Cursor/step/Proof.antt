@@ -1,0 +1,85 @@
+-- `ultra_reading::cursor::Cursor::step` meets its contract: one law a return.
+-- Assumes nothing.
+use mathlib.Core.Path.{_≡_, _∙_}
+use native.Mathlib.Omega.{arith}
+use denote.Ref.{now}
+use Rattle.ultra_format.specs.Layouts.{roomOf}
+use Rattle.ultra_reading.specs.Reading.{headFault}
+use Rattle.ultra_reading.proofs.HeadLaws.{head-holds}
+use Rattle.ultra_reading.proofs.BoundsLaws.{BoundsHold}
+use Rattle.ultra_reading.proofs.StepLaws.{cursor-bounds, step-head, step-end, step-fault, step-next}
+use borrow.Author.Needs.{needs}
+use Rattle.ultra_reading.proofs.cursor.Cursor.step.Statement.{statement}
+use Rattle.ultra_reading.proofs.cursor.Cursor.step.Tie as tie
+
+head-fine : (c : tie.Else1) → headFault 2 (now (c .before .before .before .args .buf)) ≡ 0
+head-fine c = cc
+
+-- the attribute at the cursor is within its bounds
+here : (c : tie.Else3) → BoundsHold (now (c .before .before .before .before .before .before .before .args .buf)) (roomOf (now (c .before .before .before .before .before .before .before .args .buf))) (c .before .before .before .before .before .before .before .args .self .offset)
+here c = cursor-bounds _ _ (cc)
+
+fault-requires : tie.Need-fault-requires
+fault-requires c κs = search needs
+
+new-requires : tie.Need-new-requires
+new-requires c κs = search needs
+
+returns : tie.Need-returns
+returns c = (cc) ∙ step-head _ _ (λ e. c .before .if1 .taken (cc))
+
+load-u32-requires : tie.Need-load-u32-requires
+load-u32-requires c κs = omega (arith, head-holds _ _ (head-fine c))
+
+returns-2 : tie.Need-returns-2
+returns-2 c = step-end _ _ (head-fine (c .before .before)) (omega arith)
+
+fault-requires-2 : tie.Need-fault-requires-2
+fault-requires-2 c κs = search needs
+
+new-requires-2 : tie.Need-new-requires-2
+new-requires-2 c κs = search needs
+
+returns-3 : tie.Need-returns-3
+returns-3 c = (cc) ∙ step-fault _ _ (head-fine (c .before .before .before .before .before)) (omega arith) (λ e. c .before .if3 .taken (cc))
+
+cast-at : tie.Need-cast-at
+cast-at c = search needs
+
+load-u32-requires-2 : tie.Need-load-u32-requires-2
+load-u32-requires-2 c κs = omega (arith, here c)
+
+add-load-u32 : tie.Need-add-load-u32
+add-load-u32 c = search needs
+
+load-u32-requires-3 : tie.Need-load-u32-requires-3
+load-u32-requires-3 c κs = omega (arith, here (c .before))
+
+add-t12 : tie.Need-add-t12
+add-t12 c = search needs
+
+add-t16 : tie.Need-add-t16
+add-t16 c = omega (arith, here (c .before .before))
+
+returns-4 : tie.Need-returns-4
+returns-4 c = (cc) ∙ step-next _ _ (head-fine (c .before .before .before .before .before .before)) (omega arith) (cc)
+
+pub step-spec : {M : Type 1} → statement M
+step-spec =
+    tie.close
+    (tie.spec
+    fault-requires
+    new-requires
+    returns
+    load-u32-requires
+    returns-2
+    fault-requires-2
+    new-requires-2
+    returns-3
+    cast-at
+    load-u32-requires-2
+    add-load-u32
+    load-u32-requires-3
+    add-t12
+    add-t16
+    returns-4)

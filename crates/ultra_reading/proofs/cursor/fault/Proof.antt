@@ -1,0 +1,26 @@
+-- `ultra_reading::cursor::fault` meets its contract: one law a return.
+-- Assumes nothing.
+use mathlib.Core.Path.{_∙_}
+use native.Mathlib.Omega.{arith}
+use Rattle.ultra_reading.proofs.StepLaws.{stop-low, stop-crooked, only-bounds}
+use borrow.Author.Needs.{needs}
+use Rattle.ultra_reading.proofs.cursor.fault.Statement.{statement}
+use Rattle.ultra_reading.proofs.cursor.fault.Tie as tie
+
+returns : tie.Need-returns
+returns c = stop-low _ _ (omega arith)
+
+returns-2 : tie.Need-returns-2
+returns-2 c = stop-crooked _ _ (omega arith) (λ e. omega arith)
+
+room-requires : tie.Need-room-requires
+room-requires c κs = search needs
+
+fault-requires : tie.Need-fault-requires
+fault-requires c κs = search needs
+
+returns-3 : tie.Need-returns-3
+returns-3 c = (cc) ∙ only-bounds _ _ (omega arith) (omega arith)
+
+pub fault-spec : {M : Type 1} → statement M
+fault-spec = tie.close (tie.spec returns returns-2 room-requires fault-requires returns-3)

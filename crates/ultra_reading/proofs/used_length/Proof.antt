@@ -1,0 +1,46 @@
+-- `ultra_reading::used_length` meets its contract: the head refuses, or the attributes answer.
+-- Assumes nothing.
+use mathlib.Core.Path.{_≡_, _∙_}
+use native.Mathlib.Omega.{arith}
+use denote.Ref.{now}
+use Rattle.ultra_reading.specs.Reading.{headFault}
+use Rattle.ultra_reading.proofs.HeadLaws.{head-holds, head-refuses, head-goes-on}
+use borrow.Author.Needs.{needs}
+use Rattle.ultra_reading.proofs.used_length.Statement.{statement}
+use Rattle.ultra_reading.proofs.used_length.Tie as tie
+
+head-fine : (c : tie.Else1) → headFault (c .before .before .before .args .fewest) (now (c .before .before .before .args .buf)) ≡ 0
+head-fine c = cc
+
+fault-requires : tie.Need-fault-requires
+fault-requires c κs = search needs
+
+new-requires : tie.Need-new-requires
+new-requires c κs = search needs
+
+returns : tie.Need-returns
+returns c = (cc) ∙ head-refuses _ _ (λ e. c .before .if1 .taken (cc))
+
+load-u32-requires : tie.Need-load-u32-requires
+load-u32-requires c κs = omega (arith, head-holds _ _ (head-fine c))
+
+room-requires : tie.Need-room-requires
+room-requires c κs = search needs
+
+attributes-requires : tie.Need-attributes-requires
+attributes-requires c κs = omega (arith, head-holds _ _ (head-fine (c .before .before)))
+
+returns-2 : tie.Need-returns-2
+returns-2 c = (cc) ∙ head-goes-on _ _ (head-fine (c .before .before .before))
+
+pub used-length-spec : {M : Type 1} → statement M
+used-length-spec =
+    tie.close
+    (tie.spec
+    fault-requires
+    new-requires
+    returns
+    load-u32-requires
+    room-requires
+    attributes-requires
+    returns-2)

@@ -1,0 +1,117 @@
+-- `ultra_reading::walk::attributes` meets its contract. The invariant: `at` is where attribute `i` starts, none before it has a fault,
+-- and the answer from it on is the answer from the first on.
+-- Assumes nothing.
+use Prim.Native.Nat.{_-_, _≤_}
+use mathlib.Core.Path.{_≡_, refl}
+use native.Mathlib.Omega.{arith}
+use native.Mathlib.Nat.{sub-zero}
+use borrow.Author.Needs.{needs}
+use borrow.Author.Count.{below-none, below-more}
+use denote.Ref.{now}
+use Rattle.ultra_format.specs.Places.{nearest}
+use Rattle.ultra_format.specs.Decoding.{start, storedSize, typesBefore}
+use Rattle.ultra_reading.specs.Reading.{faultOf, Clear, attributesAnswer}
+use Rattle.ultra_reading.proofs.BoundsLaws.{BoundsHold}
+use Rattle.ultra_reading.proofs.WalkLaws.{attribute-bounds, start-next, nearest-next, walk-refuse, walk-next, walk-end}
+use Rattle.ultra_reading.proofs.walk.attributes.Statement.{statement}
+use Rattle.ultra_reading.proofs.walk.attributes.Tie as tie
+
+abbrev Inv-loop : tie.InvT-loop
+Inv-loop buf room count at₀ previous₀ i₀ at previous i =
+    (at ≡ start buf i) × (previous ≡ nearest (typesBefore buf i)) × (i ≤ count) × (at ≤ room) × Clear buf room i
+    × (attributesAnswer buf room i (count - i) ≡ attributesAnswer buf room 0 count)
+
+abbrev μ-loop : tie.MeasureT-loop
+μ-loop buf room count at₀ previous₀ i₀ at previous i = count - i
+
+-- attribute `i` has no fault, where the test says so
+fine : (c : tie.Else1 Inv-loop μ-loop) → faultOf (now (c .before .before .before .before .before .args .buf)) (c .before .before .before .before .before .args .room) (c .before .before .before .loop .i) ≡ 0
+fine c = cc
+
+here : (c : tie.Else1 Inv-loop μ-loop)
+    → BoundsHold (now (c .before .before .before .before .before .args .buf)) (c .before .before .before .before .before .args .room) (start (now (c .before .before .before .before .before .args .buf)) (c .before .before .before .loop .i))
+here c = attribute-bounds _ _ _ _ (fine c)
+
+loop-holds : tie.Need-loop-holds Inv-loop μ-loop
+unfolding start typesBefore
+loop-holds c = (refl, refl, search needs, search needs, below-none _, rw sub-zero)
+
+fault-requires : tie.Need-fault-requires Inv-loop μ-loop
+fault-requires c κs = ((search needs, search needs), (c .before .loop .inv .4, search needs))
+
+cast-new : tie.Need-cast-new Inv-loop μ-loop
+cast-new c = search needs
+
+new-requires : tie.Need-new-requires Inv-loop μ-loop
+new-requires c κs = search needs
+
+returns : tie.Need-returns Inv-loop μ-loop
+returns c =
+    let a = c .before .before .before .before .before .before .args in
+    cc (walk-refuse (now (a .buf)) (a .room) (c .before .before .before .before .loop .i) (a .count) (c .before .before .before .loop-test .taken) (λ e. c .before .if1 .taken (cc)))
+
+load-u32-requires : tie.Need-load-u32-requires Inv-loop μ-loop
+load-u32-requires c κs = omega (arith, here c)
+
+add-load-u32 : tie.Need-add-load-u32 Inv-loop μ-loop
+add-load-u32 c = omega (arith, here (c .before))
+
+load-u32-requires-2 : tie.Need-load-u32-requires-2 Inv-loop μ-loop
+load-u32-requires-2 c κs = omega (arith, here (c .before))
+
+cast-at : tie.Need-cast-at Inv-loop μ-loop
+cast-at c = search needs
+
+add-at : tie.Need-add-at Inv-loop μ-loop
+add-at c = omega (arith, here (c .before .before))
+
+add-i : tie.Need-add-i Inv-loop μ-loop
+add-i c = search needs
+
+loop-less : tie.Need-loop-less Inv-loop μ-loop
+loop-less c = search needs
+
+loop-again : tie.Need-loop-again Inv-loop μ-loop
+loop-again c =
+    let a = c .before .before .before .before .before .before .before .args in
+    let l = c .before .before .before .before .before .loop in
+    let s : c .load-u322 .result ≡ storedSize (now (a .buf)) (l .i) = cc in (
+      cc (start-next (now (a .buf)) (l .i)),
+      cc (nearest-next (now (a .buf)) (l .i)),
+      search needs,
+      omega (arith, here (c .before .before)),
+      below-more _ _ (l .inv .4) (fine (c .before .before)),
+      cc (walk-next (now (a .buf)) (a .room) (l .i) (a .count) (c .before .before .before .before .loop-test .taken) (fine (c .before .before))),
+    )
+
+cast-t14 : tie.Need-cast-t14 Inv-loop μ-loop
+cast-t14 c = search needs
+
+returns-2 : tie.Need-returns-2 Inv-loop μ-loop
+returns-2 c =
+    let a = c .before .before .before .args in
+    let l = c .before .loop in
+    let e : a .count ≡ l .i = omega arith in
+    cc (walk-end (now (a .buf)) (a .room) (l .i) (a .count) e)
+
+pub attributes-spec : {M : Type 1} → statement M
+attributes-spec =
+    tie.close
+    (tie.spec
+    Inv-loop
+    μ-loop
+    loop-holds
+    fault-requires
+    cast-new
+    new-requires
+    returns
+    load-u32-requires
+    add-load-u32
+    load-u32-requires-2
+    cast-at
+    add-at
+    add-i
+    loop-less
+    loop-again
+    cast-t14
+    returns-2)

@@ -1,0 +1,58 @@
+-- Document 01, "Cases on both sides": the cases marked *, as one list. The theorem is proofs/Starred.antt.
+-- Assumes nothing.
+use Prim.Native.Nat.{ℕ}
+use mathlib.Core.Path.{_≡_}
+use mathlib.Core.List.{List, [], _∷_, _++_}
+use lib.ListN.{replicate}
+use Rattle.ultra_format.specs.Refusals.{SHORT, VERSION, COUNT, MISSING, HEADER, SIZE, OVERRUN, TYPE, PLACE, FORM}
+use Rattle.ultra_format.specs.Answers.{refusal}
+use Rattle.ultra_format.specs.Contexts.{Body.commandLine}
+use Rattle.ultra_format.specs.Plain.{writtenSize}
+use Rattle.ultra_reading.specs.Reading.{readingOf}
+use Rattle.ultra_reading.specs.declared.Reading.the-variants.{Refused}
+
+-- a buffer that reading refuses, with its number and offset; or a command line of k bytes, with the size that it is written in
+pub data Case : Type 0 where
+  refuses : List ℕ → ℕ → ℕ → Case
+  writes : ℕ → ℕ → Case
+
+abbrev pub Holds : Case → Type 0
+Holds (refuses b n o) = readingOf b ≡ Refused (refusal n o)
+Holds (writes k s) = writtenSize (commandLine (replicate k 97)) ≡ s
+
+abbrev pub AllHold : List Case → Type 0
+AllHold [] = Unit {0}
+AllHold (c ∷ cs) = Holds c × AllHold cs
+
+-- "Head H = 01 00 00 00 02 00 00 00"
+abbrev pub head : List ℕ
+head = 1 ∷ 0 ∷ 0 ∷ 0 ∷ 2 ∷ 0 ∷ 0 ∷ 0 ∷ []
+
+-- "H with eight bytes": a type and a size below 256
+abbrev pub headWith : ℕ → ℕ → List ℕ
+headWith t s = head ++ (t ∷ 0 ∷ 0 ∷ 0 ∷ s ∷ 0 ∷ 0 ∷ 0 ∷ [])
+
+abbrev pub cases : List Case
+cases =
+    -- "7 bytes: SHORT", whatever they are
+    refuses (replicate 7 0) SHORT 0
+    ∷ refuses (replicate 7 1) SHORT 0
+    -- "Eight zeros: VERSION"
+    ∷ refuses (replicate 8 0) VERSION 0
+    -- "01 then seven zeros: MISSING"
+    ∷ refuses (1 ∷ replicate 7 0) MISSING 0
+    -- "01 00 00 00 01 04 00 00: COUNT (1,025)"
+    ∷ refuses (1 ∷ 0 ∷ 0 ∷ 0 ∷ 1 ∷ 4 ∷ 0 ∷ 0 ∷ []) COUNT 0
+    -- "H alone: HEADER at 8"
+    ∷ refuses head HEADER 8
+    -- "type 1 size 12, SIZE; type 1 size 16, OVERRUN; type 0 size 8, TYPE; type 2 size 8, PLACE; type 1 size 8, FORM; all at 8"
+    ∷ refuses (headWith 1 12) SIZE 8
+    ∷ refuses (headWith 1 16) OVERRUN 8
+    ∷ refuses (headWith 0 8) TYPE 8
+    ∷ refuses (headWith 2 8) PLACE 8
+    ∷ refuses (headWith 1 8) FORM 8
+    -- "Command line of 0 or 7 bytes: 16 written; of 8: 24."
+    ∷ writes 0 16
+    ∷ writes 7 16
+    ∷ writes 8 24
+    ∷ []

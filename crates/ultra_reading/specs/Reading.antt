@@ -1,0 +1,85 @@
+-- What reading a buffer answers: the tests of document 01's table, in its order. "In reading and adding, 1 to 4 (3 for the count)
+-- have offset 0 and come first. Then attribute by attribute, 5 to 16 in that order, each with that attribute's start".
+-- Assumes nothing.
+use Prim.Native.Nat.{ℕ, zero, suc, _+_, _%_, _<_}
+use mathlib.Core.Path.{_≡_}
+use mathlib.Core.Bool.{not}
+use mathlib.Core.List.{List}
+use lib.ListN.{getD}
+use lib.Dec.{leb, eqb}
+use Rattle.words.specs.Words.{u32At}
+use Rattle.ultra_format.specs.Refusals.{unless, firstOf, SHORT, VERSION, COUNT, MISSING, HEADER, SIZE, OVERRUN, TYPE}
+use Rattle.ultra_format.specs.Answers.{orRefused}
+use Rattle.ultra_format.specs.Layouts.{roomOf}
+use Rattle.ultra_format.specs.Members.{bodyFault}
+use Rattle.ultra_format.specs.Places.{placeFault}
+use Rattle.ultra_format.specs.Decoding.{decoded, start, storedCount, typesBefore}
+use Rattle.ultra_format.specs.declared.Answer.{Answer}
+use Rattle.ultra_format.specs.declared.Answer.the-variants.{Done, Refused}
+use Rattle.ultra_reading.specs.declared.Version.{Version}
+use Rattle.ultra_reading.specs.declared.Reading.{Reading}
+use Rattle.ultra_reading.specs.declared.Reading.the-variants as reading
+
+-- the head: the first of 1 to 4 that it breaks, or 0, with `fewest` as the lower limit of the count
+unfoldable pub headFault : ℕ → List ℕ → ℕ
+headFault fewest b =
+    unless (leb 8 (roomOf b)) SHORT
+    (unless (not (eqb (getD b 0 0) 0)) VERSION
+    (unless (leb (storedCount b) 1024) COUNT
+    (unless (leb fewest (storedCount b)) MISSING
+    0)))
+
+-- the first of 5 to 8 that the attribute at `o` breaks, or 0
+unfoldable pub boundsFault : List ℕ → ℕ → ℕ → ℕ
+boundsFault b room o =
+    unless (leb (o + 8) room) HEADER
+    (unless (leb 8 (u32At b (o + 4))) SIZE
+    (unless (eqb (u32At b (o + 4) % 8) 0) SIZE
+    (unless (leb (o + u32At b (o + 4)) room) OVERRUN
+    (unless (not (eqb (u32At b o) 0)) TYPE
+    0))))
+
+-- the first of 5 to 16 that the attribute at `o` breaks, behind those of the types `before`, or 0
+unfoldable pub attributeFault : List ℕ → ℕ → List ℕ → ℕ → ℕ
+attributeFault b room before o =
+    firstOf (boundsFault b room o)
+    (firstOf (placeFault before (u32At b o))
+    (bodyFault (u32At b (o + 4)) (decoded b o (u32At b (o + 4)) (u32At b o))))
+
+-- the same of attribute i
+abbrev pub faultOf : List ℕ → ℕ → ℕ → ℕ
+faultOf b room i = attributeFault b room (typesBefore b i) (start b i)
+
+-- the attributes before i have no fault
+abbrev pub Clear : List ℕ → ℕ → ℕ → Type 0
+Clear b room i = (j : ℕ) → j < i → faultOf b room j ≡ 0
+
+-- n attributes from attribute i on: the first fault, or where they end
+unfoldable pub attributesAnswer : List ℕ → ℕ → ℕ → ℕ → Answer
+attributesAnswer b room i zero = Done (start b i)
+attributesAnswer b room i (suc n) = orRefused (faultOf b room i) (start b i) (attributesAnswer b room (suc i) n)
+
+-- the used length, or the refusal
+unfoldable pub usedLength : ℕ → List ℕ → Answer
+usedLength fewest b = orRefused (headFault fewest b) 0 (attributesAnswer b (roomOf b) 0 (storedCount b))
+
+-- "The version and the used length that reading answers"
+abbrev pub versionOf : List ℕ → Version
+versionOf b = record { major = getD b 0 0; minor = getD b 1 0 }
+
+abbrev pub withVersion : Version → Answer → Reading
+withVersion v (Done n) = reading.Accepted v n
+withVersion v (Refused r) = reading.Refused r
+
+-- reading a context: "the count is .. 2 to 1,024"
+unfoldable pub readingOf : List ℕ → Reading
+readingOf b = withVersion (versionOf b) (usedLength 2 b)
+
+-- 01's number and value of a reading
+abbrev pub readingNumber : Reading → ℕ
+readingNumber (reading.Accepted v n) = 0
+readingNumber (reading.Refused r) = r .number
+
+abbrev pub readingValue : Reading → ℕ
+readingValue (reading.Accepted v n) = n
+readingValue (reading.Refused r) = r .offset

@@ -1,0 +1,54 @@
+// Reading a lent context, and stepping through it.
+mod bounds;
+mod cursor;
+mod head;
+mod place;
+mod walk;
+
+ghost use mathlib.Core.Path.{_≡_};
+ghost use Rattle.ultra_reading.specs.Reading.{usedLength, readingOf};
+pub use cursor::Cursor;
+pub use cursor::Header;
+pub use cursor::Step;
+use ultra_format::Answer;
+use ultra_format::Refusal;
+
+pub struct Version {
+    pub major: u8,
+    pub minor: u8,
+}
+
+// What reading answers: the version and the used length, or the refusal.
+pub enum Reading {
+    Accepted(Version, u32),
+    Refused(Refusal),
+}
+
+// The used length of a context of at least `fewest` attributes. Adding reads with 0, everything else with 2.
+pub fn used_length(buf: &[u8], fewest: u32) -> Answer
+    ensures { λ r. ⌜ r ≡ usedLength fewest (now (buf .entry)) ⌝ }
+{
+    let fault = head::fault(buf, fewest);
+    if fault != 0 {
+        return Answer::Refused(Refusal::new(fault, 0));
+    }
+    let count = words::load_u32(buf, 4);
+    walk::attributes(buf, head::room(buf), count)
+}
+
+// Reads a context.
+pub fn read(buf: &[u8]) -> Reading
+    ensures { λ r. ⌜ r ≡ readingOf (now (buf .entry)) ⌝ }
+{
+    let answer = used_length(buf, 2);
+    match answer {
+        Answer::Refused(refusal) => Reading::Refused(refusal),
+        Answer::Done(used) => Reading::Accepted(
+            Version {
+                major: buf[0],
+                minor: buf[1],
+            },
+            used,
+        ),
+    }
+}

@@ -1,0 +1,80 @@
+// Which type may stand where: refusals 9 to 11.
+ghost use mathlib.Core.Path.{_≡_};
+ghost use Prim.Native.Nat.{_≤_};
+ghost use lib.ListN.{length};
+ghost use Rattle.ultra_format.specs.Places.{placed, single, occurs, nearest, placeFault};
+ghost use Rattle.ultra_format.specs.Decoding.{typesBefore};
+ghost use Rattle.ultra_reading.specs.Reading.{Clear};
+
+fn is_placed(index: u32, kind: u32) -> bool
+    ensures { λ r. ⌜ r ≡ placed index kind ⌝ }
+{
+    if index == 0 {
+        return kind == 1;
+    }
+    if index == 1 {
+        return kind == 2;
+    }
+    if kind == 1 {
+        return false;
+    }
+    kind != 2
+}
+
+fn is_single(kind: u32) -> bool
+    ensures { λ r. ⌜ r ≡ single kind ⌝ }
+{
+    if kind == 3 {
+        return true;
+    }
+    if kind == 5 {
+        return true;
+    }
+    kind == 6
+}
+
+// Whether one of the first `count` attributes is of type `kind`: they are gone over again, so that no list of types is kept.
+pub fn occurs(buf: &[u8], room: usize, kind: u32, count: u32) -> bool
+    requires { ⌜ room ≤ length (now buf) ⌝ }
+    requires { ⌜ Clear (now buf) room count ⌝ }
+    ensures { λ r. ⌜ r ≡ occurs kind (typesBefore (now (buf .entry)) count) ⌝ }
+{
+    let mut at = 8;
+    let mut i = 0;
+    while i < count {
+        if words::load_u32(buf, at) == kind {
+            return true;
+        }
+        at += words::load_u32(buf, at + 4) as usize;
+        i += 1;
+    }
+    false
+}
+
+// The first of 9 to 11 that an attribute of type `kind` at `index` breaks, behind one of type `previous`, or 0.
+pub fn fault(buf: &[u8], room: usize, index: u32, previous: u32, kind: u32) -> u32
+    requires { ⌜ room ≤ length (now buf) ⌝ }
+    requires { ⌜ Clear (now buf) room index ⌝ }
+    requires { ⌜ (previous ≡ nearest (typesBefore (now buf) index)) × (1 ≤ kind) ⌝ }
+    ensures { λ r. ⌜ r ≡ placeFault (typesBefore (now (buf .entry)) index) kind ⌝ }
+{
+    if !is_placed(index, kind) {
+        return ultra_format::PLACE;
+    }
+    if kind < 3 {
+        return 0;
+    }
+    if is_single(kind) {
+        if occurs(buf, room, kind, index) {
+            return ultra_format::REPEAT;
+        }
+        return 0;
+    }
+    if kind == previous {
+        return 0;
+    }
+    if occurs(buf, room, kind, index) {
+        return ultra_format::SPLIT;
+    }
+    0
+}
