@@ -8,11 +8,11 @@ use native.Mathlib.Nat.{not-suc-le-zero}
 use lib.ListN.{getD}
 use Rattle.byte_layout.specs.Stored.{upToZero, textAt}
 
-stops : (x : ℕ) (l : List ℕ) → x ≡ 0 → upToZero x l ≡ []
+pub stops : (x : ℕ) (l : List ℕ) → x ≡ 0 → upToZero x l ≡ []
 stops zero l e = refl
 stops (suc x) l e = absurd (omega arith)
 
-goes-on : (x : ℕ) (l : List ℕ) → (x ≡ 0 → ⊥) → upToZero x l ≡ x ∷ l
+pub goes-on : (x : ℕ) (l : List ℕ) → (x ≡ 0 → ⊥) → upToZero x l ≡ x ∷ l
 goes-on zero l n = absurd (n refl)
 goes-on (suc x) l n = refl
 

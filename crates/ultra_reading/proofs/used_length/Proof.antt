@@ -1,6 +1,10 @@
 -- `ultra_reading::used_length` meets its contract: the head refuses, or the attributes answer.
 -- Assumes nothing.
-use mathlib.Core.Path.{_≡_, _∙_}
+use Prim.Native.Nat.{ℕ}
+use mathlib.Core.Path.{_≡_, sym, ap, ap₂, _∙_}
+use Rattle.ultra_format.specs.Answers.{refusal}
+use Rattle.ultra_format.specs.declared.Answer.the-variants.{Refused}
+use Rattle.ultra_reading.specs.Reading.{attributesAnswer}
 use native.Mathlib.Omega.{arith}
 use denote.Ref.{now}
 use Rattle.ultra_reading.specs.Reading.{headFault}
@@ -10,7 +14,7 @@ use Rattle.ultra_reading.proofs.used_length.Statement.{statement}
 use Rattle.ultra_reading.proofs.used_length.Tie as tie
 
 head-fine : (c : tie.Else1) → headFault (c .before .before .before .args .fewest) (now (c .before .before .before .args .buf)) ≡ 0
-head-fine c = cc
+head-fine c = sym (c .before .fault .ensures) ∙ c .if1 .left
 
 fault-requires : tie.Need-fault-requires
 fault-requires c κs = search needs
@@ -19,7 +23,9 @@ new-requires : tie.Need-new-requires
 new-requires c κs = search needs
 
 returns : tie.Need-returns
-returns c = (cc) ∙ head-refuses _ _ (λ e. c .before .if1 .taken (cc))
+returns c =
+    let e = c .before .before .fault .ensures in
+    ap Refused (c .new .ensures ∙ ap (λ (n : ℕ). refusal n 0) e) ∙ head-refuses _ _ (λ z. c .before .if1 .taken (e ∙ z))
 
 load-u32-requires : tie.Need-load-u32-requires
 load-u32-requires c κs = omega (arith, head-holds _ _ (head-fine c))
@@ -31,7 +37,11 @@ attributes-requires : tie.Need-attributes-requires
 attributes-requires c κs = omega (arith, head-holds _ _ (head-fine (c .before .before)))
 
 returns-2 : tie.Need-returns-2
-returns-2 c = (cc) ∙ head-goes-on _ _ (head-fine (c .before .before .before))
+returns-2 c =
+    let b = now (c .before .before .before .before .before .before .args .buf) in
+    c .attributes .ensures
+    ∙ ap₂ (λ (r n : ℕ). attributesAnswer b r 0 n) (c .before .room .ensures) (c .before .before .load-u32 .ensures)
+    ∙ head-goes-on _ _ (head-fine (c .before .before .before))
 
 pub used-length-spec : {M : Type 1} → statement M
 used-length-spec =

@@ -1,7 +1,10 @@
 -- `ultra_reading::cursor::fault` meets its contract: one law a return.
 -- Assumes nothing.
-use mathlib.Core.Path.{_∙_}
+use Prim.Native.Nat.{ℕ}
+use mathlib.Core.Path.{ap, _∙_}
+use Rattle.ultra_reading.specs.Reading.{boundsFault}
 use native.Mathlib.Omega.{arith}
+use denote.Ref.{now}
 use Rattle.ultra_reading.proofs.StepLaws.{stop-low, stop-crooked, only-bounds}
 use borrow.Author.Needs.{needs}
 use Rattle.ultra_reading.proofs.cursor.fault.Statement.{statement}
@@ -20,7 +23,11 @@ fault-requires : tie.Need-fault-requires
 fault-requires c κs = search needs
 
 returns-3 : tie.Need-returns-3
-returns-3 c = (cc) ∙ only-bounds _ _ (omega arith) (omega arith)
+returns-3 c =
+    let a = c .before .before .before .before .before .args in
+    c .fault .ensures
+    ∙ ap (λ (r : ℕ). boundsFault (now (a .buf)) r (a .offset)) (c .before .room .ensures)
+    ∙ only-bounds (now (a .buf)) (a .offset) (omega arith) (omega arith)
 
 pub fault-spec : {M : Type 1} → statement M
 fault-spec = tie.close (tie.spec returns returns-2 room-requires fault-requires returns-3)

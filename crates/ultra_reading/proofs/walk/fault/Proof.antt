@@ -1,6 +1,12 @@
 -- `ultra_reading::walk::fault` meets its contract: one law a return.
 -- Assumes nothing.
-use mathlib.Core.Path.{_∙_}
+use Prim.Native.Nat.{ℕ}
+use mathlib.Core.Path.{_≡_, sym, ap, ap₂, _∙_}
+use Rattle.words.specs.Words.{u32At}
+use Rattle.ultra_format.specs.Members.{bodyFault}
+use Rattle.ultra_format.specs.Places.{placeFault}
+use Rattle.ultra_format.specs.Decoding.{decoded, typesBefore}
+use Rattle.ultra_reading.specs.Reading.{boundsFault}
 use native.Mathlib.Omega.{arith}
 use denote.Ref.{now}
 use Rattle.ultra_reading.proofs.BoundsLaws.{BoundsHold, bounds-hold}
@@ -11,13 +17,21 @@ use Rattle.ultra_reading.proofs.walk.fault.Tie as tie
 
 -- the attribute is within its bounds
 here : (c : tie.Else1) → BoundsHold (now (c .before .before .before .args .buf)) (c .before .before .before .args .room) (c .before .before .before .args .at)
-here c = bounds-hold _ _ _ (cc)
+here c = bounds-hold _ _ _ (sym (c .before .fault .ensures) ∙ c .if1 .left)
+
+no-bounds : (c : tie.Else1) → boundsFault (now (c .before .before .before .args .buf)) (c .before .before .before .args .room) (c .before .before .before .args .at) ≡ 0
+no-bounds c = sym (c .before .fault .ensures) ∙ c .if1 .left
+
+-- what the place's test answers, of the type that was loaded
+placing : (c : tie.After-fault2)
+    → c .fault2 .result ≡ placeFault (typesBefore (now (c .before .before .before .before .before .args .buf)) (c .before .before .before .before .before .args .index)) (u32At (now (c .before .before .before .before .before .args .buf)) (c .before .before .before .before .before .args .at))
+placing c = c .fault2 .ensures ∙ ap (placeFault _) (c .before .load-u32 .ensures)
 
 fault-requires : tie.Need-fault-requires
 fault-requires c κs = search needs
 
 returns : tie.Need-returns
-returns c = (cc) ∙ stop-bounds _ _ _ _ (λ e. c .if1 .taken (cc))
+returns c = let e = c .before .fault .ensures in e ∙ stop-bounds _ _ _ _ (λ z. c .if1 .taken (e ∙ z))
 
 load-u32-requires : tie.Need-load-u32-requires
 load-u32-requires c κs = omega (arith, here c)
@@ -26,7 +40,9 @@ fault-requires-2 : tie.Need-fault-requires-2
 fault-requires-2 c κs = (search needs, (search needs, (search needs, omega (arith, here (c .before)))))
 
 returns-2 : tie.Need-returns-2
-returns-2 c = (cc) ∙ stop-placing _ _ _ _ (cc) (λ e. c .if2 .taken (cc))
+returns-2 c =
+    let e = placing (c .before) in
+    e ∙ stop-placing _ _ _ _ (no-bounds (c .before .before .before)) (λ z. c .if2 .taken (e ∙ z))
 
 add-load-u32 : tie.Need-add-load-u32
 add-load-u32 c = search needs
@@ -38,7 +54,14 @@ body-fault-requires : tie.Need-body-fault-requires
 body-fault-requires c κs = omega (arith, here (c .before .before .before .before))
 
 returns-3 : tie.Need-returns-3
-returns-3 c = (cc) ∙ only-body _ _ _ _ (cc) (cc)
+returns-3 c =
+    let l = c .before in
+    let p = l .before .before in
+    let b = now (p .before .before .before .before .before .args .buf) in
+    let o = p .before .before .before .before .before .args .at in
+    c .body-fault .ensures
+    ∙ ap₂ (λ (s t : ℕ). bodyFault s (decoded b o s t)) (l .load-u322 .ensures) (p .before .load-u32 .ensures)
+    ∙ only-body _ _ _ _ (no-bounds (p .before .before)) (sym (placing p) ∙ l .before .if2 .left)
 
 pub fault-spec : {M : Type 1} → statement M
 fault-spec =

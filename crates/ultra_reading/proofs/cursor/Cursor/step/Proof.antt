@@ -1,6 +1,10 @@
 -- `ultra_reading::cursor::Cursor::step` meets its contract: one law a return.
 -- Assumes nothing.
-use mathlib.Core.Path.{_≡_, _∙_}
+use Prim.Native.Nat.{ℕ, _+_}
+use mathlib.Core.Path.{_≡_, sym, ap, ap₂, _∙_}
+use Rattle.ultra_format.specs.Answers.{refusal}
+use Rattle.ultra_reading.specs.Stepping.{cursorFault, cursorAt}
+use Rattle.ultra_reading.specs.declared.cursor.Step.the-variants.{Attribute, Refused}
 use native.Mathlib.Omega.{arith}
 use denote.Ref.{now}
 use Rattle.ultra_format.specs.Layouts.{roomOf}
@@ -13,11 +17,15 @@ use Rattle.ultra_reading.proofs.cursor.Cursor.step.Statement.{statement
 use Rattle.ultra_reading.proofs.cursor.Cursor.step.Tie as tie
 
 head-fine : (c : tie.Else1) → headFault 2 (now (c .before .before .before .args .buf)) ≡ 0
-head-fine c = cc
+head-fine c = sym (c .before .fault .ensures) ∙ c .if1 .left
+
+cursor-fine : (c : tie.Else3)
+    → cursorFault (now (c .before .before .before .before .before .before .before .args .buf)) (c .before .before .before .before .before .before .before .args .self .offset) ≡ 0
+cursor-fine c = sym (c .before .fault2 .ensures) ∙ c .if3 .left
 
 -- the attribute at the cursor is within its bounds
 here : (c : tie.Else3) → BoundsHold (now (c .before .before .before .before .before .before .before .args .buf)) (roomOf (now (c .before .before .before .before .before .before .before .args .buf))) (c .before .before .before .before .before .before .before .args .self .offset)
-here c = cursor-bounds _ _ (cc)
+here c = cursor-bounds _ _ (cursor-fine c)
 
 fault-requires : tie.Need-fault-requires
 fault-requires c κs = search needs
@@ -26,7 +34,9 @@ new-requires : tie.Need-new-requires
 new-requires c κs = search needs
 
 returns : tie.Need-returns
-returns c = (cc) ∙ step-head _ _ (λ e. c .before .if1 .taken (cc))
+returns c =
+    let e = c .before .before .fault .ensures in
+    ap Refused (c .new .ensures ∙ ap (λ (n : ℕ). refusal n 0) e) ∙ step-head _ _ (λ z. c .before .if1 .taken (e ∙ z))
 
 load-u32-requires : tie.Need-load-u32-requires
 load-u32-requires c κs = omega (arith, head-holds _ _ (head-fine c))
@@ -41,7 +51,11 @@ new-requires-2 : tie.Need-new-requires-2
 new-requires-2 c κs = search needs
 
 returns-3 : tie.Need-returns-3
-returns-3 c = (cc) ∙ step-fault _ _ (head-fine (c .before .before .before .before .before)) (omega arith) (λ e. c .before .if3 .taken (cc))
+returns-3 c =
+    let e = c .before .before .fault2 .ensures in
+    let a = c .before .before .before .before .before .before .before .before .args in
+    ap Refused (c .new2 .ensures ∙ ap (λ (n : ℕ). refusal n (a .self .offset)) e)
+    ∙ step-fault (now (a .buf)) (a .self) (head-fine (c .before .before .before .before .before)) (omega arith) (λ z. c .before .if3 .taken (e ∙ z))
 
 cast-at : tie.Need-cast-at
 cast-at c = search needs
@@ -62,7 +76,11 @@ add-t16 : tie.Need-add-t16
 add-t16 c = omega (arith, here (c .before .before))
 
 returns-4 : tie.Need-returns-4
-returns-4 c = (cc) ∙ step-next _ _ (head-fine (c .before .before .before .before .before .before)) (omega arith) (cc)
+returns-4 c =
+    let l = c .before in
+    let a = l .before .before .before .before .before .before .before .before .args in
+    ap₂ (λ (t s : ℕ). Attribute (record { kind = t; start = a .self .offset; size = s }) (cursorAt (a .self .index + 1) (a .self .offset + s))) (l .load-u322 .ensures) (c .load-u323 .ensures)
+    ∙ step-next (now (a .buf)) (a .self) (head-fine (l .before .before .before .before .before)) (omega arith) (cursor-fine (l .before))
 
 pub step-spec : {M : Type 1} → statement M
 step-spec =
