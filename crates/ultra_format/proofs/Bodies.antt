@@ -47,7 +47,7 @@ pub decoded-type : (b : List ℕ) (o s t : ℕ) → typeOf (decoded b o s t) ≡
 decoded-type b o s t = by-type (λ (x : Body). typeOf x ≡ t) b o s t (λ e. sym e) (λ e. sym e) (λ e. sym e) (λ e. sym e) (λ e. sym e) (λ e. sym e) (λ n. refl)
 
 -- ---- entries
-width-entries : (es : List Entry) → width (entriesFields es) ≡ 24 * length es
+pub width-entries : (es : List Entry) → width (entriesFields es) ≡ 24 * length es
 unfolding entriesFields width
 width-entries [] = refl
 width-entries (e ∷ es) = let r = width-entries es in omega arith
@@ -79,22 +79,22 @@ entries-only b o j (e ∷ es) h =
     ap₂ (λ (x : Entry) (l : List Entry). x ∷ l) (rw (q8, q16, h .0, h .1 .0, h .1 .1 .0)) (rw q24 (entries-only b o (j + 8 + 8 + 8) es (h .1 .1 .1)))
 
 -- ---- the platform's late members: a member that ends at `e` is there just where the size reaches it
-shown : (t : Bool) (n : ℕ) → presentIf t (present n) ≡ true → t ≡ true
+pub shown : (t : Bool) (n : ℕ) → presentIf t (present n) ≡ true → t ≡ true
 shown true n h = refl
 shown false n h = absurd (let z : _≡_ {A = ℕ} 0 1 = cc in omega arith)
 
-hidden : (t : Bool) → presentIf t absent ≡ true → t ≡ false
+pub hidden : (t : Bool) → presentIf t absent ≡ true → t ≡ false
 hidden true h = absurd (let z : _≡_ {A = ℕ} 0 1 = cc in omega arith)
 hidden false h = refl
 
 -- a later member is not there without an earlier one
-gap : (s e f n : ℕ) → e ≤ f → presentIf (leb e s) absent ≡ true → presentIf (leb f s) (present n) ≡ true → ⊥
+pub gap : (s e f n : ℕ) → e ≤ f → presentIf (leb e s) absent ≡ true → presentIf (leb f s) (present n) ≡ true → ⊥
 gap s e f n l h p = omega (arith, leb-false e s (hidden (leb e s) h), leb-true f s (shown (leb f s) n p))
 
-abbrev lateFields : ℕ → Member → Member → Member → Member → List Field
+abbrev pub lateFields : ℕ → Member → Member → Member → Member → List Field
 lateFields s half depth dtb smbios = memberFields 8 half ++ depthFields depth ++ memberFields 8 dtb ++ memberFields 8 smbios ++ (padding (s - 88) ∷ [])
 
-abbrev LateSuit : ℕ → Member → Member → Member → Member → Type 0
+abbrev pub LateSuit : ℕ → Member → Member → Member → Member → Type 0
 LateSuit s half depth dtb smbios =
     (presentIf (leb 64 s) half ≡ true) × (presentIf (leb 65 s) depth ≡ true) × (presentIf (leb 80 s) dtb ≡ true) × (presentIf (leb 88 s) smbios ≡ true)
 
@@ -142,7 +142,7 @@ late-stored b o s = go (leb 64 s) (leb 65 s) (leb 80 s) (leb 88 s) refl refl ref
     go true false false true p q r u = absurd (omega (arith, leb-false 65 s q, leb-true 88 s u))
     go true true false true p q r u = absurd (omega (arith, leb-false 80 s r, leb-true 88 s u))
 
-late-suits : (s : ℕ) (p : Platform) → sizeSuits s (platform p) ≡ true → (56 ≤ s) × LateSuit s (p .higherHalfBase) (p .depth) (p .dtb) (p .smbios)
+pub late-suits : (s : ℕ) (p : Platform) → sizeSuits s (platform p) ≡ true → (56 ≤ s) × LateSuit s (p .higherHalfBase) (p .depth) (p .dtb) (p .smbios)
 unfolding sizeSuits
 late-suits s p e =
     let h4 = both-hold (leb 56 s && presentIf (leb 64 s) (p .higherHalfBase) && presentIf (leb 65 s) (p .depth) && presentIf (leb 80 s) (p .dtb)) _ e in
@@ -151,9 +151,12 @@ late-suits s p e =
     let h1 = both-hold (leb 56 s) _ (h2 .0) in
     (leb-true 56 s (h1 .0), (h1 .1, h2 .1, h3 .1, h4 .1))
 
-map-count : (s : ℕ) (es : List Entry) → sizeSuits s (memoryMap es) ≡ true → (s - 8) / 24 ≡ length es
+pub map-size : (s : ℕ) (es : List Entry) → sizeSuits s (memoryMap es) ≡ true → s ≡ 8 + 24 * length es
 unfolding sizeSuits
-map-count s es q = let e : s ≡ 8 + 24 * length es = eqb-true s (8 + 24 * length es) q in omega arith
+map-size s es q = eqb-true s (8 + 24 * length es) q
+
+map-count : (s : ℕ) (es : List Entry) → sizeSuits s (memoryMap es) ≡ true → (s - 8) / 24 ≡ length es
+map-count s es q = omega (arith, map-size s es q)
 
 -- ---- bodies
 -- what is decoded lies there by the layout

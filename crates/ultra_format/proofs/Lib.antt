@@ -1,2 +1,4 @@
 pub mod Chains
 pub mod Bodies
+pub mod Attributes
+pub mod Decoded
