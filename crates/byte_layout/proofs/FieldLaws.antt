@@ -1,7 +1,7 @@
 -- The two laws of a layout: what its cells, lying in a buffer, say of the values that are stored there, and back. Proved once for
 -- each kind of field, and lifted to fields in a row.
 -- Assumes nothing.
-use Prim.Native.Nat.{ℕ, zero, suc, _+_, _-_, _*_, _/_, _%_, _^_, _≤_, _<_}
+use Prim.Native.Nat.{ℕ, zero, suc, _+_, _-_, _/_, _^_, _<_}
 use mathlib.Core.Path.{_≡_, refl, sym, ap, ap₂, _∙_, subst}
 use mathlib.Core.List.{List, [], _∷_, _++_, append-assoc}
 use native.Mathlib.Omega.{arith}
@@ -10,7 +10,7 @@ use lib.ListN.{length, getD, length-append}
 use Rattle.words.specs.Words.{numberAt, littleEndian}
 use Rattle.words.proofs.Widths.{length-bytes}
 use Rattle.byte_layout.specs.Fields.{Cell, Field, bytes, silence, padded, textCells, fieldCells, fieldWidth, FieldFits, cells, width, Fits}
-use Rattle.byte_layout.specs.Fields.{Cell.byte, Cell.silent, Field.number, Field.raw, Field.text, Field.padding}
+use Rattle.byte_layout.specs.Fields.{Field.number, Field.raw, Field.text, Field.padding}
 use Rattle.byte_layout.specs.Stored.{Bytes, bytesAt, upToZero, textAt}
 use Rattle.byte_layout.proofs.Cells.{At, at-front, at-append}
 use Rattle.byte_layout.proofs.Texts.{stops, goes-on}

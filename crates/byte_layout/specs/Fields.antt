@@ -54,7 +54,7 @@ fieldWidth (raw k l) = k
 fieldWidth (text k l) = k
 fieldWidth (padding k) = k
 
--- the value fits the field: a number has k bytes, a text holds no zero byte
+-- the value fits the field: a number has k bytes; raw bytes are k bytes; a text is at most k bytes, none of them zero
 abbrev pub FieldFits : Field → Type 0
 FieldFits (number k n) = n < 256 ^ k
 FieldFits (raw k l) = (length l ≡ k) × ((i : ℕ) → i < k → getD l i 0 < 256)

@@ -1,24 +1,24 @@
 -- Layout and decoding agree on attributes in a row, each as wide as its size.
 -- Assumes nothing.
-use Prim.Native.Nat.{ℕ, zero, suc, _+_, _-_, _*_, _%_, _≤_, _<_}
-use mathlib.Core.Path.{_≡_, refl, sym, ap, ap₂, _∙_}
+use Prim.Native.Nat.{ℕ, zero, suc, _+_, _-_, _%_, _≤_, _<_}
+use mathlib.Core.Path.{_≡_, refl, sym, ap₂, _∙_}
 use mathlib.Core.Bool.{true}
-use mathlib.Core.List.{List, [], _∷_, _++_}
+use mathlib.Core.List.{List, [], _∷_}
 use native.Mathlib.Omega.{arith}
 use native.Mathlib.Nat.{not-suc-le-zero, le-of-suc-le-suc, add-zero}
 use lib.ListN.{length, getD, take}
 use lib.Dec.{leb}
-use borrow.Author.Tests.{leb-true, leb-false, eqb-true}
+use borrow.Author.Tests.{leb-true, leb-false}
 use Rattle.words.specs.Words.{numberAt, u32At}
-use Rattle.byte_layout.specs.Fields.{Field, cells, width, Fits}
+use Rattle.byte_layout.specs.Fields.{cells, width, Fits}
 use Rattle.byte_layout.specs.Stored.{Bytes}
 use Rattle.byte_layout.proofs.Cells.{opens-at, at-opens}
 use Rattle.byte_layout.proofs.FieldLaws.{Holds, shift, holds-front, holds-append, holds-fit, from-cells, to-cells, length-cells, width-append}
-use Rattle.ultra_format.specs.Contexts.{Member, Body, typeOf, Attribute, Context, count, attributeAt, sizeAt, bodyAt, typeAt, total, used}
+use Rattle.ultra_format.specs.Contexts.{Member, Body, typeOf, Attribute, Context, count, sizeAt, bodyAt, total, startIn, used}
 use Rattle.ultra_format.specs.Contexts.{Member.present, Member.absent, Body.platform, Body.kernel, Body.memoryMap, Body.moduleInfo, Body.commandLine, Body.framebuffer, Body.other}
 use Rattle.ultra_format.specs.Layouts.{bodyFields, attributeFields, attributesFields, layout, Opens}
 use Rattle.ultra_format.specs.Members.{sizeSuits}
-use Rattle.ultra_format.specs.Rules.{AttributeMeets, Meets}
+use Rattle.ultra_format.specs.Rules.{Meets}
 use Rattle.ultra_format.proofs.Bodies.{LateSuit, late-suits, shown, hidden, gap, lateFields, width-entries, map-size}
 
 -- ---- one attribute
@@ -89,10 +89,6 @@ module _ (b : List ℕ) where
       rw q at (h (suc i) (omega arith))))
 
 -- ---- a context
--- "8 plus the sizes before it"
-abbrev pub startIn : List Attribute → ℕ → ℕ
-startIn l i = 8 + total (take i l)
-
 pub sized : {fewest room : ℕ} {c : Context} → Meets fewest room c → Sized (c .attributes)
 sized {c = c} m i h = let a = m .each i h in width-attribute (sizeAt c i) (bodyAt c i) (a .least) (a .eights) (a .suits)
 

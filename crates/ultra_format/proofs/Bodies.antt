@@ -1,25 +1,25 @@
 -- Layout and decoding agree on a body: what is decoded from a buffer lies there by the layout, and a body that lies there is what is
 -- decoded.
 -- Assumes nothing.
-use Prim.Native.Nat.{ℕ, zero, suc, _+_, _-_, _*_, _/_, _%_, _≤_, _<_}
-use mathlib.Core.Path.{_≡_, refl, sym, ap, ap₂, _∙_, subst}
+use Prim.Native.Nat.{ℕ, zero, suc, _+_, _-_, _*_, _/_, _≤_}
+use mathlib.Core.Path.{_≡_, refl, sym, ap, ap₂, _∙_}
 use mathlib.Core.Bool.{Bool, true, false, _&&_}
 use mathlib.Core.List.{List, [], _∷_, _++_}
 use native.Mathlib.Omega.{arith}
 use lib.ListN.{length}
 use lib.Dec.{leb, eqb}
-use borrow.Author.Tests.{leb-true, leb-false, le-leb, lt-leb, eqb-true, eqb-false, eq-eqb, ne-eqb}
+use borrow.Author.Tests.{leb-true, leb-false, eqb-true, eqb-false, ne-eqb}
 use Rattle.words.specs.Words.{numberAt}
 use Rattle.byte_layout.specs.Fields.{Field, width}
 use Rattle.byte_layout.specs.Fields.{Field.padding}
 use Rattle.byte_layout.specs.Stored.{textAt}
-use Rattle.byte_layout.proofs.FieldLaws.{Holds, shift, holds-front, holds-append, width-append}
+use Rattle.byte_layout.proofs.FieldLaws.{Holds}
 use Rattle.ultra_format.specs.Contexts.{Member, Platform, Entry, Body, typeOf}
 use Rattle.ultra_format.specs.Contexts.{Member.present, Member.absent, Body.platform, Body.kernel, Body.memoryMap, Body.moduleInfo, Body.commandLine, Body.framebuffer, Body.other}
 use Rattle.ultra_format.specs.Layouts.{memberFields, depthFields, entriesFields, bodyFields}
 use Rattle.ultra_format.specs.Members.{presentIf, sizeSuits}
-use Rattle.ultra_format.specs.Rules.{OtherType}
-use Rattle.ultra_format.specs.Decoding.{pick, memberWhen, memberAt, platformAt, kernelAt, entryAt, entriesAt, moduleAt, framebufferAt, decoded}
+use Rattle.ultra_format.specs.Rules.{TypeSuits}
+use Rattle.ultra_format.specs.Decoding.{pick, memberWhen, memberAt, platformAt, kernelAt, entriesAt, moduleAt, framebufferAt, decoded}
 use Rattle.ultra_format.proofs.Chains.{both-hold}
 
 -- ---- by the type
@@ -172,7 +172,7 @@ body-stored b o s t =
     (λ n. (tt, tt))
 
 -- what lies there by the layout is what is decoded
-pub body-only : (b : List ℕ) (o s : ℕ) (x : Body) → OtherType x → sizeSuits s x ≡ true → Holds b o 8 (bodyFields s x) → x ≡ decoded b o s (typeOf x)
+pub body-only : (b : List ℕ) (o s : ℕ) (x : Body) → TypeSuits x → sizeSuits s x ≡ true → Holds b o 8 (bodyFields s x) → x ≡ decoded b o s (typeOf x)
 unfolding decoded
 body-only b o s (platform p) u q h =
     let l = late-only b o s (p .higherHalfBase) (p .depth) (p .dtb) (p .smbios) (late-suits s p q .1) (h .1 .1 .1 .1 .1) in

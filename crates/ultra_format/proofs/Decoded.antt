@@ -6,16 +6,16 @@ use mathlib.Core.Bool.{true}
 use mathlib.Core.List.{List, [], _∷_}
 use native.Mathlib.Omega.{arith}
 use native.Mathlib.Nat.{not-suc-le-zero, le-of-suc-le-suc, add-zero, zero-add}
-use lib.ListN.{length, getD, take}
+use lib.ListN.{length, take}
 use lib.Seq.{ext-getD, take-length}
-use Rattle.ultra_format.specs.Contexts.{Body, typeOf, Attribute, Context, sizeAt, bodyAt, total, used}
+use Rattle.ultra_format.specs.Contexts.{typeOf, Attribute, Context, total, startIn, used}
 use Rattle.ultra_format.specs.Contexts.{Body.other}
 use Rattle.ultra_format.specs.Layouts.{Opens}
 use Rattle.ultra_format.specs.Members.{sizeSuits}
-use Rattle.ultra_format.specs.Rules.{OtherType, Meets}
+use Rattle.ultra_format.specs.Rules.{TypeSuits, Meets}
 use Rattle.ultra_format.specs.Decoding.{start, storedType, storedSize, storedCount, storedAttribute, attributesFrom, contextOf}
 use Rattle.ultra_format.proofs.Bodies.{decoded-type, body-stored, body-only}
-use Rattle.ultra_format.proofs.Attributes.{attribute, at, startIn, sized, Stored, Says, opens-says}
+use Rattle.ultra_format.proofs.Attributes.{attribute, at, sized, Says, opens-says}
 
 -- ---- the attributes that are decoded
 attributes-length : (b : List ℕ) (i n : ℕ) → length (attributesFrom b i n) ≡ n
@@ -90,7 +90,7 @@ module _ (b : List ℕ) (c : Context) (s : Says b c) where
       let t = total-take (c .attributes) i h in
       rw r (omega arith)
 
-  only : ((i : ℕ) → i < length (c .attributes) → OtherType (at (c .attributes) i .body) × (sizeSuits (at (c .attributes) i .size) (at (c .attributes) i .body) ≡ true)) → c ≡ contextOf b
+  only : ((i : ℕ) → i < length (c .attributes) → TypeSuits (at (c .attributes) i .body) × (sizeSuits (at (c .attributes) i .size) (at (c .attributes) i .body) ≡ true)) → c ≡ contextOf b
   unfolding contextOf
   only k =
       let l : c .attributes ≡ contextOf b .attributes =
@@ -107,4 +107,4 @@ module _ (b : List ℕ) (c : Context) (s : Says b c) where
 
 -- whatever meets the rules and opens a buffer is the context that is decoded from it
 pub decoded-only : (fewest room : ℕ) (b : List ℕ) (c : Context) → Meets fewest room c → Opens b c → c ≡ contextOf b
-decoded-only fewest room b c m o = only b c (opens-says b c (m .fits) (sized m) o) (λ i h. let a = m .each i h in (a .otherType, a .suits))
+decoded-only fewest room b c m o = only b c (opens-says b c (m .fits) (sized m) o) (λ i h. let a = m .each i h in (a .typeSuits, a .suits))

@@ -3,7 +3,7 @@
 -- Assumes nothing.
 use Prim.Native.Nat.{ℕ, _+_}
 use mathlib.Core.List.{List, [], _∷_}
-use lib.ListN.{length, getD}
+use lib.ListN.{length, getD, take}
 
 -- a platform member from the higher half base on: "An absent one is marked absent, not zero."
 pub data Member : Type 0 where
@@ -100,6 +100,10 @@ typeAt c i = typeOf (bodyAt c i)
 unfoldable pub total : List Attribute → ℕ
 total [] = 0
 total (a ∷ l) = a .size + total l
+
+-- where attribute i starts: "8 plus the sizes before it"
+abbrev pub startIn : List Attribute → ℕ → ℕ
+startIn l i = 8 + total (take i l)
 
 -- "Its used length is 8 plus the sum of its sizes, also with fewer than two attributes."
 abbrev pub used : Context → ℕ

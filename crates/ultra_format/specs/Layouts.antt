@@ -1,5 +1,6 @@
--- The layout of a context as bytes: document 01, "The head and the attributes". Reading, building, "opens a buffer", "silent" and
--- "plain" all rest on this one definition. Each line of fields is a row of 01's table, from byte 8 of the attribute on.
+-- The layout of a context as bytes: document 01, "The head and the attributes". What it means that a list's bytes open a buffer, which
+-- bytes are silent, what is plain and what a writer writes all come from this one definition. Reading decodes by the table's offsets
+-- (Decoding); `says-decoded`, in proofs/Decoded.antt, proves that the two agree.
 -- Assumes nothing.
 use Prim.Native.Nat.{ℕ, _+_, _-_, min}
 use mathlib.Core.List.{List, [], _∷_, _++_}
@@ -27,7 +28,7 @@ unfoldable pub entriesFields : List Entry → List Field
 entriesFields [] = []
 entriesFields (e ∷ es) = entryFields e ++ entriesFields es
 
--- the fields from byte 8 on of an attribute of `s` bytes
+-- a row of the table: the fields from byte 8 on of an attribute of `s` bytes
 abbrev pub bodyFields : ℕ → Body → List Field
 bodyFields s (platform p) =
     number 4 (p .platformType) ∷ number 2 (p .loaderMajor) ∷ number 2 (p .loaderMinor) ∷ text 32 (p .name) ∷ number 8 (p .rsdp)

@@ -7,3 +7,4 @@ pub mod Rules
 pub mod Plain
 pub mod Places
 pub mod Decoding
+pub mod Examples

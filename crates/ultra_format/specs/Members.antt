@@ -16,7 +16,7 @@ every p [] = true
 every p (x ∷ l) = p x && every p l
 
 -- ---- "sizes suit the table"
--- "present exactly if they end within the size": whether a member that ends at `end` is as the size says
+-- "present exactly if they end within the size": given whether it ends within the size, the member is as it has to be
 abbrev pub presentIf : Bool → Member → Bool
 presentIf true (present n) = true
 presentIf true absent = false
@@ -25,7 +25,7 @@ presentIf false absent = true
 
 unfoldable pub sizeSuits : ℕ → Body → Bool
 sizeSuits s (platform p) =
-    leb 56 s && presentIf (leb 64 s) (p .higherHalfBase) && presentIf (leb 65 s) (p .depth) && presentIf (leb 80 s) (p .dtb) && presentIf (leb 88 s) (p .smbios)
+    leb 56 s && presentIf (leb (56 + 8) s) (p .higherHalfBase) && presentIf (leb (64 + 1) s) (p .depth) && presentIf (leb (72 + 8) s) (p .dtb) && presentIf (leb (80 + 8) s) (p .smbios)
 sizeSuits s (kernel k) = leb 336 s
 sizeSuits s (memoryMap es) = eqb s (8 + 24 * length es)
 sizeSuits s (moduleInfo m) = leb 96 s
@@ -42,8 +42,8 @@ nonzero n = not (eqb n 0)
 abbrev pub pageAligned : ℕ → Bool
 pageAligned n = eqb (n % 4096) 0
 
-abbrev pub typed : Entry → Bool
-typed e = nonzero (e .entryType)
+abbrev pub entryTyped : Entry → Bool
+entryTyped e = nonzero (e .entryType)
 
 unfoldable pub kernelValues : ℕ → ℕ → ℕ → ℕ → Bool
 kernelValues physical virtual size partitionType = nonzero partitionType && pageAligned physical && pageAligned virtual && pageAligned size
@@ -60,7 +60,7 @@ framebufferValues width pitch bpp format = bppSuits format bpp && leb (width * b
 unfoldable pub values : Body → Bool
 values (platform p) = nonzero (p .platformType)
 values (kernel k) = kernelValues (k .physicalBase) (k .virtualBase) (k .size) (k .partitionType)
-values (memoryMap es) = every typed es
+values (memoryMap es) = every entryTyped es
 values (moduleInfo m) = moduleValues (m .moduleType) (m .address)
 values (commandLine t) = true
 values (framebuffer f) = framebufferValues (f .width) (f .pitch) (f .bpp) (f .format)

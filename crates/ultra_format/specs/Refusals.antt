@@ -51,19 +51,19 @@ SPLIT = 11
 abbrev pub FORM : ℕ
 FORM = 12
 
--- "the member rules"
+-- "values: ..", 01's member rules (Members, values)
 abbrev pub VALUE : ℕ
 VALUE = 13
 
--- "the member rules"
+-- "texts: .." (Members, texts)
 abbrev pub TEXT : ℕ
 TEXT = 14
 
--- "the member rules"
+-- "ranges: .." (Members, ranges)
 abbrev pub RANGE : ℕ
 RANGE = 15
 
--- "the member rules"
+-- "map order: .." (Members, ordered)
 abbrev pub ORDER : ℕ
 ORDER = 16
 

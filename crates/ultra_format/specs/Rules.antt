@@ -11,23 +11,23 @@ use Rattle.ultra_format.specs.Layouts.{layout}
 use Rattle.ultra_format.specs.Members.{sizeSuits, values, texts, ranges, ordered}
 use Rattle.ultra_format.specs.Places.{single}
 
--- a type without members is one "from 7 up"
-abbrev pub OtherType : Body → Type 0
-OtherType (platform p) = Unit {0}
-OtherType (kernel k) = Unit {0}
-OtherType (memoryMap es) = Unit {0}
-OtherType (moduleInfo m) = Unit {0}
-OtherType (commandLine t) = Unit {0}
-OtherType (framebuffer f) = Unit {0}
-OtherType (other t) = 7 ≤ t
+-- a body suits its type: one without members is of a type "from 7 up"; the table's six have their own bodies
+abbrev pub TypeSuits : Body → Type 0
+TypeSuits (platform p) = Unit {0}
+TypeSuits (kernel k) = Unit {0}
+TypeSuits (memoryMap es) = Unit {0}
+TypeSuits (moduleInfo m) = Unit {0}
+TypeSuits (commandLine t) = Unit {0}
+TypeSuits (framebuffer f) = Unit {0}
+TypeSuits (other t) = 7 ≤ t
 
 -- what the rules ask of one attribute of `s` bytes
 pub record AttributeMeets (s : ℕ) (x : Body) : Type 0 where
   -- "every size is a multiple of 8 and at least 8 (we ask it of the last one too)"
   pub eights : s % 8 ≡ 0
   pub least : 8 ≤ s
-  -- the table's six types have their members, and those "of types 7 and up" none
-  pub otherType : OtherType x
+  -- "types 7 and up" are those without a row in the table
+  pub typeSuits : TypeSuits x
   -- "sizes suit the table"
   pub suits : sizeSuits s x ≡ true
   -- "and the members meet": values, texts, ranges, map order

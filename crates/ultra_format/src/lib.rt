@@ -48,7 +48,7 @@ pub struct Refusal {
 }
 
 impl Refusal {
-    // The only place that makes one.
+    // Every refusal of the library is made here.
     pub fn new(number: u32, offset: u32) -> Self
         ensures { λ r. ⌜ r ≡ refusal number offset ⌝ }
     {

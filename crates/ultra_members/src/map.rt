@@ -1,14 +1,14 @@
-// The memory map: `count` entries of 24 bytes from `at` on. "All entries are tried for 13, then 15, then 16."
+// The memory map: `count` entries of 24 bytes from `at` on. "within a map, all entries are tried for 13, then 15, then 16"
 ghost use mathlib.Core.Path.{_≡_};
 ghost use Prim.Native.Nat.{_+_, _-_, _*_, _/_, _≤_};
 ghost use lib.ListN.{length};
 ghost use Rattle.ultra_format.specs.Contexts.{Body};
-ghost use Rattle.ultra_format.specs.Members.{bodyFault, every, typed, entryFits, entriesOrdered};
+ghost use Rattle.ultra_format.specs.Members.{bodyFault, every, entryTyped, entryFits, entriesOrdered};
 ghost use Rattle.ultra_format.specs.Decoding.{entriesAt};
 
 fn all_typed(bytes: &[u8], at: usize, count: usize) -> bool
     requires { ⌜ at + 24 * count ≤ length (now bytes) ⌝ }
-    ensures { λ r. ⌜ r ≡ every typed (entriesAt (now (bytes .entry)) at count) ⌝ }
+    ensures { λ r. ⌜ r ≡ every entryTyped (entriesAt (now (bytes .entry)) at count) ⌝ }
 {
     let mut entry = at;
     let mut left = count;

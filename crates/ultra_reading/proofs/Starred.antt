@@ -1,15 +1,25 @@
--- The cases that document 01 marks * hold, by computing the definitions.
+-- The cases that document 01 marks * hold, and the context of its listing is accepted, by computing the definitions.
 -- Assumes nothing.
-use mathlib.Core.Path.{refl}
+use mathlib.Core.Path.{_≡_, refl}
 use Rattle.words.specs.Words.{numberAt}
-use Rattle.byte_layout.specs.Stored.{textAt}
-use Rattle.ultra_format.specs.Members.{sizeSuits, bodyFault}
+use Rattle.byte_layout.specs.Stored.{bytesAt, textAt}
+use Rattle.ultra_format.specs.Members.{every, sizeSuits, values, kernelValues, texts, asciiText, pathText, ranges, ordered, entriesOrdered, bodyFault}
 use Rattle.ultra_format.specs.Places.{placed, occurs, placeFault}
 use Rattle.ultra_format.specs.Plain.{writtenSize}
-use Rattle.ultra_format.specs.Decoding.{decoded, start, typesBefore}
+use Rattle.ultra_format.specs.Decoding.{entriesAt, decoded, start, typesBefore}
+use Rattle.ultra_format.specs.Examples.{listedBytes}
 use Rattle.ultra_reading.specs.Reading.{headFault, boundsFault, attributeFault, attributesAnswer, usedLength, readingOf}
 use Rattle.ultra_reading.specs.Cases.{AllHold, cases}
+use Rattle.ultra_reading.specs.declared.Reading.the-variants.{Accepted}
 
 pub starred : AllHold cases
 unfolding numberAt textAt sizeSuits bodyFault placed occurs placeFault writtenSize decoded start typesBefore headFault boundsFault attributeFault attributesAnswer usedLength readingOf
-starred = (refl, (refl, (refl, (refl, (refl, (refl, (refl, (refl, (refl, (refl, (refl, (refl, (refl, (refl, tt))))))))))))))
+starred = (
+  λ p q r s t u v. (refl, refl),
+  ((refl, refl), ((refl, refl), ((refl, refl), ((refl, refl), ((refl, refl), ((refl, refl), ((refl, refl), ((refl, refl), ((refl, refl), (λ t e. rw e, (λ t e. rw e, (λ t e. rw e, tt)))))))))))),
+)
+
+-- the context of document 01's listing is accepted, with version 1.0 and used length 480
+pub listed-accepted : readingOf listedBytes ≡ Accepted (record { major = 1; minor = 0 }) 480
+unfolding numberAt textAt bytesAt entriesAt every sizeSuits values kernelValues texts asciiText pathText ranges ordered entriesOrdered bodyFault placed occurs placeFault decoded start typesBefore headFault boundsFault attributeFault attributesAnswer usedLength readingOf
+listed-accepted = refl

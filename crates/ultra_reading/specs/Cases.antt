@@ -3,22 +3,27 @@
 use Prim.Native.Nat.{ℕ}
 use mathlib.Core.Path.{_≡_}
 use mathlib.Core.List.{List, [], _∷_, _++_}
-use lib.ListN.{replicate}
+use lib.ListN.{length, replicate}
 use Rattle.ultra_format.specs.Refusals.{SHORT, VERSION, COUNT, MISSING, HEADER, SIZE, OVERRUN, TYPE, PLACE, FORM}
-use Rattle.ultra_format.specs.Answers.{refusal}
 use Rattle.ultra_format.specs.Contexts.{Body.commandLine}
 use Rattle.ultra_format.specs.Plain.{writtenSize}
-use Rattle.ultra_reading.specs.Reading.{readingOf}
-use Rattle.ultra_reading.specs.declared.Reading.the-variants.{Refused}
+use Rattle.ultra_reading.specs.Reading.{readingOf, readingNumber, readingValue}
 
--- a buffer that reading refuses, with its number and offset; or a command line of k bytes, with the size that it is written in
+-- a buffer that reading refuses, with its number and offset; the same of any seven bytes; and a command line of k bytes, whatever
+-- they are, with the size that it is written in
 pub data Case : Type 0 where
   refuses : List ℕ → ℕ → ℕ → Case
+  refusesSeven : ℕ → ℕ → Case
   writes : ℕ → ℕ → Case
 
+-- 01's number and value of what reading answers
+abbrev pub Answers : List ℕ → ℕ → ℕ → Type 0
+Answers b n v = (readingNumber (readingOf b) ≡ n) × (readingValue (readingOf b) ≡ v)
+
 abbrev pub Holds : Case → Type 0
-Holds (refuses b n o) = readingOf b ≡ Refused (refusal n o)
-Holds (writes k s) = writtenSize (commandLine (replicate k 97)) ≡ s
+Holds (refuses b n o) = Answers b n o
+Holds (refusesSeven n o) = (p q r s t u v : ℕ) → Answers (p ∷ q ∷ r ∷ s ∷ t ∷ u ∷ v ∷ []) n o
+Holds (writes k s) = (t : List ℕ) → length t ≡ k → writtenSize (commandLine t) ≡ s
 
 abbrev pub AllHold : List Case → Type 0
 AllHold [] = Unit {0}
@@ -34,9 +39,8 @@ headWith t s = head ++ (t ∷ 0 ∷ 0 ∷ 0 ∷ s ∷ 0 ∷ 0 ∷ 0 ∷ [])
 
 abbrev pub cases : List Case
 cases =
-    -- "7 bytes: SHORT", whatever they are
-    refuses (replicate 7 0) SHORT 0
-    ∷ refuses (replicate 7 1) SHORT 0
+    -- "7 bytes: SHORT"
+    refusesSeven SHORT 0
     -- "Eight zeros: VERSION"
     ∷ refuses (replicate 8 0) VERSION 0
     -- "01 then seven zeros: MISSING"
@@ -45,7 +49,7 @@ cases =
     ∷ refuses (1 ∷ 0 ∷ 0 ∷ 0 ∷ 1 ∷ 4 ∷ 0 ∷ 0 ∷ []) COUNT 0
     -- "H alone: HEADER at 8"
     ∷ refuses head HEADER 8
-    -- "type 1 size 12, SIZE; type 1 size 16, OVERRUN; type 0 size 8, TYPE; type 2 size 8, PLACE; type 1 size 8, FORM; all at 8"
+    -- type 1 size 12, SIZE; type 1 size 16, OVERRUN; type 0 size 8, TYPE; type 2 size 8, PLACE; type 1 size 8, FORM; "all at 8"
     ∷ refuses (headWith 1 12) SIZE 8
     ∷ refuses (headWith 1 16) OVERRUN 8
     ∷ refuses (headWith 0 8) TYPE 8

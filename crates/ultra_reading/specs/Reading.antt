@@ -71,7 +71,7 @@ abbrev pub withVersion : Version → Answer → Reading
 withVersion v (Done n) = reading.Accepted v n
 withVersion v (Refused r) = reading.Refused r
 
--- reading a context: "the count is .. 2 to 1,024"
+-- reading a context: 2 is the lower limit of its count
 unfoldable pub readingOf : List ℕ → Reading
 readingOf b = withVersion (versionOf b) (usedLength 2 b)
 

@@ -24,7 +24,7 @@ pub enum Reading {
     Refused(Refusal),
 }
 
-// The used length of a context of at least `fewest` attributes. Adding reads with 0, everything else with 2.
+// The used length of a context of at least `fewest` attributes. For the crates above: adding reads with 0, everything else with 2.
 pub fn used_length(buf: &[u8], fewest: u32) -> Answer
     ensures { λ r. ⌜ r ≡ usedLength fewest (now (buf .entry)) ⌝ }
 {

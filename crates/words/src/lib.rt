@@ -1,5 +1,5 @@
 // Little-endian numbers in byte slices. Every load and store is bytewise in the source, since a lent buffer may start
-// anywhere, and compiles to one move.
+// anywhere; each function by itself compiles to one move.
 ghost use mathlib.Core.Path.{_≡_};
 ghost use Prim.Native.Nat.{_+_, _≤_, _<_};
 ghost use lib.ListN.{length};

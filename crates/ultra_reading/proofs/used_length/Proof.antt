@@ -4,10 +4,9 @@ use Prim.Native.Nat.{ℕ}
 use mathlib.Core.Path.{_≡_, sym, ap, ap₂, _∙_}
 use Rattle.ultra_format.specs.Answers.{refusal}
 use Rattle.ultra_format.specs.declared.Answer.the-variants.{Refused}
-use Rattle.ultra_reading.specs.Reading.{attributesAnswer}
+use Rattle.ultra_reading.specs.Reading.{attributesAnswer, headFault}
 use native.Mathlib.Omega.{arith}
 use denote.Ref.{now}
-use Rattle.ultra_reading.specs.Reading.{headFault}
 use Rattle.ultra_reading.proofs.HeadLaws.{head-holds, head-refuses, head-goes-on}
 use borrow.Author.Needs.{needs}
 use Rattle.ultra_reading.proofs.used_length.Statement.{statement}

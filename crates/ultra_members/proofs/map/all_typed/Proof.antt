@@ -3,14 +3,14 @@
 use mathlib.Core.Path.{refl, sym, _∙_}
 use native.Mathlib.Omega.{arith}
 use borrow.Author.Needs.{needs}
-use Rattle.ultra_format.specs.Members.{every, typed}
+use Rattle.ultra_format.specs.Members.{every, entryTyped}
 use Rattle.ultra_members.proofs.Comparisons.{is-zero, not-zero}
 use Rattle.ultra_members.proofs.Entries.{Rest, every-none, every-stop, every-rest}
 use Rattle.ultra_members.proofs.map.all_typed.Statement.{statement}
 use Rattle.ultra_members.proofs.map.all_typed.Tie as tie
 
 abbrev Inv-loop : tie.InvT-loop
-Inv-loop bytes at count entry₀ left₀ entry left = Rest (every typed) bytes at count entry left
+Inv-loop bytes at count entry₀ left₀ entry left = Rest (every entryTyped) bytes at count entry left
 
 abbrev μ-loop : tie.MeasureT-loop
 μ-loop bytes at count entry₀ left₀ entry left = left
@@ -27,7 +27,7 @@ load-u64-requires c κs = search needs
 returns : tie.Need-returns Inv-loop μ-loop
 returns c =
     let d = c .before .before in
-    sym (d .before .loop .inv .1 ∙ every-stop _ _ typed _ (d .loop-test .taken) (is-zero (c .before .load-u64 .ensures) (c .if1 .taken)))
+    sym (d .before .loop .inv .1 ∙ every-stop _ _ entryTyped _ (d .loop-test .taken) (is-zero (c .before .load-u64 .ensures) (c .if1 .taken)))
 
 add-entry : tie.Need-add-entry Inv-loop μ-loop
 add-entry c = search needs
@@ -41,10 +41,10 @@ loop-less c = search needs
 loop-again : tie.Need-loop-again Inv-loop μ-loop
 loop-again c =
     let d = c .before .before in
-    (omega arith, d .before .loop .inv .1 ∙ every-rest _ _ typed _ (d .loop-test .taken) (not-zero (c .before .load-u64 .ensures) (c .if1 .left)))
+    (omega arith, d .before .loop .inv .1 ∙ every-rest _ _ entryTyped _ (d .loop-test .taken) (not-zero (c .before .load-u64 .ensures) (c .if1 .left)))
 
 returns-2 : tie.Need-returns-2 Inv-loop μ-loop
-returns-2 c = sym (c .before .loop .inv .1 ∙ every-none _ _ typed _ (c .loop-test .left))
+returns-2 c = sym (c .before .loop .inv .1 ∙ every-none _ _ entryTyped _ (c .loop-test .left))
 
 pub all-typed-spec : {M : Type 1} → statement M
 all-typed-spec =
