@@ -4,6 +4,7 @@ ghost use Prim.Native.Nat.{_≤_};
 ghost use lib.ListN.{length};
 ghost use Rattle.ultra_reading.specs.Reading.{boundsFault};
 
+// The first of 5 to 8 that the attribute at `at` breaks, or 0.
 pub fn fault(buf: &[u8], room: usize, at: usize) -> u32
     requires { ⌜ (room ≤ length (now buf)) × (at ≤ 4294967295) ⌝ }
     ensures { λ r. ⌜ r ≡ boundsFault (now (buf .entry)) room at ⌝ }

@@ -1,7 +1,5 @@
 // Stepping: a cursor by value, whose step answers an attribute and the following cursor.
 ghost use mathlib.Core.Path.{_≡_};
-ghost use Prim.Native.Nat.{_≤_};
-ghost use lib.ListN.{length};
 ghost use Rattle.ultra_reading.specs.Stepping.{cursorAt, cursorFault, stepOf};
 use ultra_format::Refusal;
 
@@ -12,6 +10,7 @@ pub struct Header {
     pub size: u32,
 }
 
+// Where stepping stands: the index of the next attribute and the offset that it is looked for at.
 pub struct Cursor {
     pub index: u32,
     pub offset: u32,
@@ -47,6 +46,7 @@ impl Cursor {
         }
     }
 
+    // The attribute at the cursor with the following cursor, the end, or the refusal.
     pub fn step(self, buf: &[u8]) -> Step
         ensures { λ r. ⌜ r ≡ stepOf (now (buf .entry)) self ⌝ }
     {

@@ -1,0 +1,35 @@
+-- Statements: reading accepts exactly the contexts that meet the rules, there is one at most, and silent bytes never change what is
+-- read. They are proved in proofs/Acceptance.antt. Each speaks of every lower limit of the count, so of reading (2) and of adding (0).
+-- Of a buffer only that its elements are bytes is assumed, and that only where it is needed.
+-- Assumes nothing.
+use Prim.Native.Nat.{ℕ, _≤_, _<_}
+use mathlib.Core.Path.{_≡_}
+use mathlib.Core.Logic.{_↔_}
+use mathlib.Core.List.{List}
+use lib.ListN.{length, getD}
+use Rattle.byte_layout.specs.Stored.{Bytes}
+use Rattle.ultra_format.specs.Contexts.{Context, used}
+use Rattle.ultra_format.specs.Layouts.{Opens, Silent, roomOf}
+use Rattle.ultra_format.specs.Rules.{Meets}
+use Rattle.ultra_format.specs.declared.Answer.the-variants.{Done}
+use Rattle.ultra_reading.specs.Reading.{usedLength}
+
+-- a context that a buffer holds: it "meets the rules" with that buffer's room, "and its bytes open the buffer"
+abbrev pub HeldBy : ℕ → List ℕ → Context → Type 0
+HeldBy fewest b c = Meets fewest (roomOf b) c × Opens b c
+
+-- "reading accepts exactly when some list meets the rules and its bytes open the buffer", and answers its used length
+abbrev pub AcceptsExactly : Type 0
+AcceptsExactly = (fewest : ℕ) (b : List ℕ) (n : ℕ) → Bytes b → (usedLength fewest b ≡ Done n) ↔ ((c : Context) × HeldBy fewest b c × (n ≡ used c))
+
+-- "Then there is no other such list and no other used length"
+abbrev pub OneContext : Type 0
+OneContext = (fewest : ℕ) (b : List ℕ) (c d : Context) → HeldBy fewest b c → HeldBy fewest b d → c ≡ d
+
+-- "a second buffer of at least the used length, equal to the first up to there apart from bytes silent in the first", holds the same
+-- context and is accepted alike
+abbrev pub SilentBytes : Type 0
+SilentBytes =
+    (fewest : ℕ) (b d : List ℕ) (c : Context) → HeldBy fewest b c → used c ≤ length d
+    → ((i : ℕ) → i < used c → (Silent c i → ⊥) → getD d i 0 ≡ getD b i 0)
+    → HeldBy fewest d c × (usedLength fewest d ≡ usedLength fewest b)

@@ -1,0 +1,1 @@
+// No code: statements, in specs/, and proofs that reading accepts exactly the contexts that meet the rules.
