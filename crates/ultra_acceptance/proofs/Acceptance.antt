@@ -1,8 +1,8 @@
 -- Proofs of the statements in specs/Acceptance.antt: the one context that a buffer can hold is the one that is decoded from it; it
 -- meets the rules just where every test passes.
 -- Assumes nothing.
-use Prim.Native.Nat.{ℕ, _≤_, _<_}
-use mathlib.Core.Path.{_≡_, sym, ap, _∙_, subst}
+use Prim.Native.Nat.{ℕ, zero, suc, _≤_, _<_}
+use mathlib.Core.Path.{_≡_, refl, sym, ap, _∙_, subst}
 use mathlib.Core.List.{List}
 use native.Mathlib.Omega.{arith}
 use lib.ListN.{length, getD}
@@ -14,12 +14,16 @@ use Rattle.ultra_format.specs.Contexts.{Attribute, Context, count, sizeAt, body
 use Rattle.ultra_format.specs.Layouts.{layout, Opens, roomOf}
 use Rattle.ultra_format.specs.Rules.{TypeSuits, AttributeMeets, Meets}
 use Rattle.ultra_format.specs.Decoding.{decoded, start, storedType, storedSize, storedCount, storedAttribute, contextOf}
-use Rattle.ultra_format.specs.declared.Answer.the-variants.{Done}
+use Rattle.ultra_format.specs.Answers.{refused, orRefused}
+use Rattle.ultra_format.specs.declared.Refusal.{Refusal}
+use Rattle.ultra_format.specs.declared.Answer.{Answer}
+use Rattle.ultra_format.specs.declared.Answer.the-variants.{Done, Refused}
 use Rattle.ultra_format.proofs.Bodies.{by-type}
 use Rattle.ultra_format.proofs.Attributes.{at, Sized, sized, width-attribute, width-layout, says-fits, says-opens}
 use Rattle.ultra_format.proofs.Decoded.{count-decoded, at-decoded, type-decoded, used-decoded, says-decoded, decoded-only}
-use Rattle.ultra_reading.specs.Reading.{usedLength}
-use Rattle.ultra_acceptance.specs.Acceptance.{AcceptsExactly, OneContext, SilentBytes}
+use Rattle.ultra_reading.specs.Reading.{headFault, faultOf, attributesAnswer, usedLength, versionOf, withVersion, readingOf, readingNumber}
+use Rattle.ultra_reading.specs.declared.Reading.the-variants as reading
+use Rattle.ultra_acceptance.specs.Acceptance.{HeldBy, AcceptsExactly, OneContext, SilentBytes, versionIn, ReadsExactly, SilentReading}
 use Rattle.ultra_acceptance.proofs.Types.{fits, Ordered, ordered, no-fault}
 use Rattle.ultra_acceptance.proofs.Walked.{Passes, Accepted, accepted, accepting, inside, ends}
 
@@ -168,3 +172,42 @@ silent-bytes fewest b d c g l h =
     let p : Opens d c = opens-over b d (cells (layout c)) (g .1) (omega arith) (λ i k e. h i (omega arith) e) in
     let w : Meets fewest (roomOf d) c = rehoused m (omega (arith, m .within)) in
     ((w, p), complete fewest d c w p ∙ sym (complete fewest b c m (g .1)))
+
+-- ---- reading
+-- what reading answers of a buffer that holds a context
+held-reading : (b : List ℕ) (c : Context) → HeldBy 2 b c → readingOf b ≡ reading.Accepted (versionIn c) (used c)
+unfolding readingOf contextOf
+held-reading b c h =
+    let q = decoded-only 2 (roomOf b) b c (h .0) (h .1) in
+    ap (withVersion (versionOf b)) (complete 2 b c (h .0) (h .1)) ∙ ap (λ (d : Context). reading.Accepted (versionIn d) (used c)) (sym q)
+
+-- a refusal's number is not 0
+refusal-number : (n o : ℕ) (rest : Answer) (r : Refusal) → (rest ≡ Refused r → r .number ≡ 0 → ⊥) → orRefused n o rest ≡ Refused r → r .number ≡ 0 → ⊥
+refusal-number zero o rest r h e z = h e z
+refusal-number (suc n) o rest r h e z = let q : r .number ≡ suc n = number-of n o r e in omega arith
+  where
+    number-of : (n o : ℕ) (r : Refusal) → refused (suc n) o ≡ Refused r → r .number ≡ suc n
+    number-of n o r e = cc
+
+attributes-number : (b : List ℕ) (room i n : ℕ) (r : Refusal) → attributesAnswer b room i n ≡ Refused r → r .number ≡ 0 → ⊥
+unfolding attributesAnswer
+attributes-number b room i zero r e z = let w : _≡_ {A = ℕ} 0 1 = cc in omega arith
+attributes-number b room i (suc n) r e z = refusal-number (faultOf b room i) (start b i) _ r (attributes-number b room (suc i) n r) e z
+
+used-number : (fewest : ℕ) (b : List ℕ) (r : Refusal) → usedLength fewest b ≡ Refused r → r .number ≡ 0 → ⊥
+unfolding usedLength
+used-number fewest b r e z = refusal-number (headFault fewest b) 0 _ r (attributes-number b (roomOf b) 0 (storedCount b) r) e z
+
+number-held : (b : List ℕ) → Bytes b → (a : Answer) → usedLength 2 b ≡ a → readingNumber (withVersion (versionOf b) a) ≡ 0
+    → (c : Context) × HeldBy 2 b c
+number-held b y (Done n) e z = let s = sound 2 b n y e in (contextOf b, (s .0, s .1))
+number-held b y (Refused r) e z = absurd (used-number 2 b r e z)
+
+pub reads-exactly : ReadsExactly
+unfolding readingOf
+reads-exactly b y =
+    (λ e. let h = number-held b y (usedLength 2 b) refl e in (h .0, h .1, held-reading b (h .0) (h .1)), λ r. ap readingNumber (r .2))
+
+pub silent-reading : SilentReading
+silent-reading b d c h l e =
+    held-reading d c (silent-bytes 2 b d c h l e .0) ∙ sym (held-reading b c h)

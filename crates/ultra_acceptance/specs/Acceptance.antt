@@ -1,6 +1,6 @@
 -- Statements: reading accepts exactly the contexts that meet the rules, there is one at most, and silent bytes never change what is
--- read. They are proved in proofs/Acceptance.antt. Each speaks of every lower limit of the count, so of reading (2) and of adding (0).
--- Of a buffer only that its elements are bytes is assumed, and that only where it is needed.
+-- read. They are proved in proofs/Acceptance.antt. Those with `fewest` speak of every lower limit of the count, so of what adding reads
+-- too. Of a buffer only that its elements are bytes is assumed, and that only where it is needed.
 -- Assumes nothing.
 use Prim.Native.Nat.{ℕ, _≤_, _<_}
 use mathlib.Core.Path.{_≡_}
@@ -12,13 +12,15 @@ use Rattle.ultra_format.specs.Contexts.{Context, used}
 use Rattle.ultra_format.specs.Layouts.{Opens, Silent, roomOf}
 use Rattle.ultra_format.specs.Rules.{Meets}
 use Rattle.ultra_format.specs.declared.Answer.the-variants.{Done}
-use Rattle.ultra_reading.specs.Reading.{usedLength}
+use Rattle.ultra_reading.specs.Reading.{usedLength, readingOf, readingNumber}
+use Rattle.ultra_reading.specs.declared.Version.{Version}
+use Rattle.ultra_reading.specs.declared.Reading.the-variants.{Accepted}
 
 -- a context that a buffer holds: it "meets the rules" with that buffer's room, "and its bytes open the buffer"
 abbrev pub HeldBy : ℕ → List ℕ → Context → Type 0
 HeldBy fewest b c = Meets fewest (roomOf b) c × Opens b c
 
--- "reading accepts exactly when some list meets the rules and its bytes open the buffer", and answers its used length
+-- a used length is answered exactly when "some list meets the rules and its bytes open the buffer", and it is that list's
 abbrev pub AcceptsExactly : Type 0
 AcceptsExactly = (fewest : ℕ) (b : List ℕ) (n : ℕ) → Bytes b → (usedLength fewest b ≡ Done n) ↔ ((c : Context) × HeldBy fewest b c × (n ≡ used c))
 
@@ -33,3 +35,18 @@ SilentBytes =
     (fewest : ℕ) (b d : List ℕ) (c : Context) → HeldBy fewest b c → used c ≤ length d
     → ((i : ℕ) → i < used c → (Silent c i → ⊥) → getD d i 0 ≡ getD b i 0)
     → HeldBy fewest d c × (usedLength fewest d ≡ usedLength fewest b)
+
+-- the version that "the list carries"
+abbrev pub versionIn : Context → Version
+versionIn c = record { major = c .major; minor = c .minor }
+
+-- "reading accepts exactly when some list meets the rules and its bytes open the buffer", and answers its version and used length
+abbrev pub ReadsExactly : Type 0
+ReadsExactly = (b : List ℕ) → Bytes b → (readingNumber (readingOf b) ≡ 0) ↔ ((c : Context) × HeldBy 2 b c × (readingOf b ≡ Accepted (versionIn c) (used c)))
+
+-- what reading answers of two buffers as in SilentBytes is the same
+abbrev pub SilentReading : Type 0
+SilentReading =
+    (b d : List ℕ) (c : Context) → HeldBy 2 b c → used c ≤ length d
+    → ((i : ℕ) → i < used c → (Silent c i → ⊥) → getD d i 0 ≡ getD b i 0)
+    → readingOf d ≡ readingOf b

@@ -1,5 +1,5 @@
--- The context of document 01's listing, as a list and as its 480 bytes, written out by hand from 01's table. proofs/Witness.antt shows
--- that it meets the rules, opens those bytes and is plain.
+-- The context of document 01's listing, as a list and as its 480 bytes, written out by hand from 01's table; its GUIDs, which the
+-- listing does not show, are zero. proofs/Witness.antt shows that it meets the rules, opens those bytes and is plain.
 -- Assumes nothing.
 use Prim.Native.Nat.{ℕ}
 use mathlib.Core.List.{List, [], _∷_, _++_}
