@@ -15,35 +15,30 @@ use Rattle.byte_layout.specs.Stored.{Bytes}
 use Rattle.byte_layout.proofs.Cells.{opens-at, at-opens}
 use Rattle.byte_layout.proofs.FieldLaws.{Holds, shift, holds-front, holds-append, holds-fit, from-cells, to-cells, length-cells, width-append}
 use Rattle.ultra_format.specs.Contexts.{Member, Body, typeOf, Attribute, Context, count, sizeAt, bodyAt, total, startIn, used}
-use Rattle.ultra_format.specs.Contexts.{Member.present, Member.absent, Body.platform, Body.kernel, Body.memoryMap, Body.moduleInfo, Body.commandLine, Body.framebuffer, Body.other}
+use Rattle.ultra_format.specs.Contexts.{Body.platform, Body.kernel, Body.memoryMap, Body.moduleInfo, Body.commandLine, Body.framebuffer, Body.other}
 use Rattle.ultra_format.specs.Layouts.{bodyFields, attributeFields, attributesFields, layout, Opens}
 use Rattle.ultra_format.specs.Members.{sizeSuits}
 use Rattle.ultra_format.specs.Rules.{Meets}
-use Rattle.ultra_format.proofs.Bodies.{LateSuit, late-suits, shown, hidden, gap, lateFields, width-entries, map-size}
+use Rattle.ultra_format.proofs.Bodies.{LateSuit, Late, Late.none, Late.toHalf, Late.toDepth, Late.toDtb, Late.toSmbios, late, late-suits, shown, hidden, lateFields, width-entries, map-size}
 
 -- ---- one attribute
 abbrev pub attribute : ℕ → Body → Attribute
 attribute s x = record { size = s; body = x }
 
-late-width : (s : ℕ) (half depth dtb smbios : Member) → 56 ≤ s → s % 8 ≡ 0 → LateSuit s half depth dtb smbios → 56 + width (lateFields s half depth dtb smbios) ≡ s
+late-width : (s : ℕ) (half depth dtb smbios : Member) → 56 ≤ s → s % 8 ≡ 0 → Late half depth dtb smbios → LateSuit s half depth dtb smbios
+    → 56 + width (lateFields s half depth dtb smbios) ≡ s
 unfolding width
-late-width s absent absent absent absent l e q = omega (arith, leb-false 64 s (hidden (leb 64 s) (q .0)))
-late-width s (present x) absent absent absent l e q = omega (arith, leb-true 64 s (shown (leb 64 s) x (q .0)), leb-false 65 s (hidden (leb 65 s) (q .1)))
-late-width s (present x) (present y) absent absent l e q = omega (arith, leb-true 65 s (shown (leb 65 s) y (q .1)), leb-false 80 s (hidden (leb 80 s) (q .2)))
-late-width s (present x) (present y) (present z) absent l e q = omega (arith, leb-true 80 s (shown (leb 80 s) z (q .2)), leb-false 88 s (hidden (leb 88 s) (q .3)))
-late-width s (present x) (present y) (present z) (present w) l e q = omega (arith, leb-true 88 s (shown (leb 88 s) w (q .3)))
-late-width s absent (present y) t m l e q = absurd (gap s 64 65 y (omega arith) (q .0) (q .1))
-late-width s absent absent (present z) m l e q = absurd (gap s 64 80 z (omega arith) (q .0) (q .2))
-late-width s absent absent absent (present w) l e q = absurd (gap s 64 88 w (omega arith) (q .0) (q .3))
-late-width s (present x) absent (present z) m l e q = absurd (gap s 65 80 z (omega arith) (q .1) (q .2))
-late-width s (present x) absent absent (present w) l e q = absurd (gap s 65 88 w (omega arith) (q .1) (q .3))
-late-width s (present x) (present y) absent (present w) l e q = absurd (gap s 80 88 w (omega arith) (q .2) (q .3))
+late-width s h d t m l e none q = omega (arith, leb-false 64 s (hidden (leb 64 s) (q .0)))
+late-width s h d t m l e toHalf q = omega (arith, leb-true 64 s (shown (leb 64 s) _ (q .0)), leb-false 65 s (hidden (leb 65 s) (q .1)))
+late-width s h d t m l e toDepth q = omega (arith, leb-true 65 s (shown (leb 65 s) _ (q .1)), leb-false 80 s (hidden (leb 80 s) (q .2)))
+late-width s h d t m l e toDtb q = omega (arith, leb-true 80 s (shown (leb 80 s) _ (q .2)), leb-false 88 s (hidden (leb 88 s) (q .3)))
+late-width s h d t m l e toSmbios q = omega (arith, leb-true 88 s (shown (leb 88 s) _ (q .3)))
 
 pub width-attribute : (s : ℕ) (x : Body) → 8 ≤ s → s % 8 ≡ 0 → sizeSuits s x ≡ true → width (attributeFields (attribute s x)) ≡ s
 unfolding width sizeSuits
 width-attribute s (platform p) l e q =
     let h = late-suits s p q in
-    let w = late-width s (p .higherHalfBase) (p .depth) (p .dtb) (p .smbios) (h .0) e (h .1) in
+    let w = late-width s (p .higherHalfBase) (p .depth) (p .dtb) (p .smbios) (h .0) e (late s _ _ _ _ (h .1)) (h .1) in
     omega arith
 width-attribute s (kernel k) l e q = omega (arith, leb-true 336 s q)
 width-attribute s (memoryMap es) l e q = omega (arith, width-entries es, map-size s es q)

@@ -88,7 +88,7 @@ hidden true h = absurd (let z : _≡_ {A = ℕ} 0 1 = cc in omega arith)
 hidden false h = refl
 
 -- a later member is not there without an earlier one
-pub gap : (s e f n : ℕ) → e ≤ f → presentIf (leb e s) absent ≡ true → presentIf (leb f s) (present n) ≡ true → ⊥
+gap : (s e f n : ℕ) → e ≤ f → presentIf (leb e s) absent ≡ true → presentIf (leb f s) (present n) ≡ true → ⊥
 gap s e f n l h p = omega (arith, leb-false e s (hidden (leb e s) h), leb-true f s (shown (leb f s) n p))
 
 abbrev pub lateFields : ℕ → Member → Member → Member → Member → List Field
@@ -109,21 +109,36 @@ out s e n p = rw (hidden (leb e s) p)
 inn : (s e x n : ℕ) → presentIf (leb e s) (present x) ≡ true → n ≡ x → present x ≡ memberWhen (leb e s) n
 inn s e x n p h = rw (shown (leb e s) x p, h)
 
-late-only : (b : List ℕ) (o s : ℕ) (half depth dtb smbios : Member) → LateSuit s half depth dtb smbios
+-- the five ways in which late members can be there
+pub data Late : Member → Member → Member → Member → Type 0 where
+  none : Late absent absent absent absent
+  toHalf : {x : ℕ} → Late (present x) absent absent absent
+  toDepth : {x y : ℕ} → Late (present x) (present y) absent absent
+  toDtb : {x y z : ℕ} → Late (present x) (present y) (present z) absent
+  toSmbios : {x y z w : ℕ} → Late (present x) (present y) (present z) (present w)
+
+pub late : (s : ℕ) (half depth dtb smbios : Member) → LateSuit s half depth dtb smbios → Late half depth dtb smbios
+late s absent absent absent absent q = none
+late s (present x) absent absent absent q = toHalf
+late s (present x) (present y) absent absent q = toDepth
+late s (present x) (present y) (present z) absent q = toDtb
+late s (present x) (present y) (present z) (present w) q = toSmbios
+late s absent (present y) t m q = absurd (gap s 64 65 y (omega arith) (q .0) (q .1))
+late s absent absent (present z) m q = absurd (gap s 64 80 z (omega arith) (q .0) (q .2))
+late s absent absent absent (present w) q = absurd (gap s 64 88 w (omega arith) (q .0) (q .3))
+late s (present x) absent (present z) m q = absurd (gap s 65 80 z (omega arith) (q .1) (q .2))
+late s (present x) absent absent (present w) q = absurd (gap s 65 88 w (omega arith) (q .1) (q .3))
+late s (present x) (present y) absent (present w) q = absurd (gap s 80 88 w (omega arith) (q .2) (q .3))
+
+late-only : (b : List ℕ) (o s : ℕ) (half depth dtb smbios : Member) → Late half depth dtb smbios → LateSuit s half depth dtb smbios
     → Holds b o 56 (lateFields s half depth dtb smbios) → LateIs b o s half depth dtb smbios
-late-only b o s absent absent absent absent q h = (out s 64 _ (q .0), out s 65 _ (q .1), out s 80 _ (q .2), out s 88 _ (q .3))
-late-only b o s (present x) absent absent absent q h = (inn s 64 x _ (q .0) (h .0), out s 65 _ (q .1), out s 80 _ (q .2), out s 88 _ (q .3))
-late-only b o s (present x) (present y) absent absent q h = (inn s 64 x _ (q .0) (h .0), inn s 65 y _ (q .1) (h .1 .0), out s 80 _ (q .2), out s 88 _ (q .3))
-late-only b o s (present x) (present y) (present z) absent q h =
-    (inn s 64 x _ (q .0) (h .0), inn s 65 y _ (q .1) (h .1 .0), inn s 80 z _ (q .2) (h .1 .1 .1 .0), out s 88 _ (q .3))
-late-only b o s (present x) (present y) (present z) (present w) q h =
-    (inn s 64 x _ (q .0) (h .0), inn s 65 y _ (q .1) (h .1 .0), inn s 80 z _ (q .2) (h .1 .1 .1 .0), inn s 88 w _ (q .3) (h .1 .1 .1 .1 .0))
-late-only b o s absent (present y) t m q h = absurd (gap s 64 65 y (omega arith) (q .0) (q .1))
-late-only b o s absent absent (present z) m q h = absurd (gap s 64 80 z (omega arith) (q .0) (q .2))
-late-only b o s absent absent absent (present w) q h = absurd (gap s 64 88 w (omega arith) (q .0) (q .3))
-late-only b o s (present x) absent (present z) m q h = absurd (gap s 65 80 z (omega arith) (q .1) (q .2))
-late-only b o s (present x) absent absent (present w) q h = absurd (gap s 65 88 w (omega arith) (q .1) (q .3))
-late-only b o s (present x) (present y) absent (present w) q h = absurd (gap s 80 88 w (omega arith) (q .2) (q .3))
+late-only b o s h d t m none q f = (out s 64 _ (q .0), out s 65 _ (q .1), out s 80 _ (q .2), out s 88 _ (q .3))
+late-only b o s h d t m toHalf q f = (inn s 64 _ _ (q .0) (f .0), out s 65 _ (q .1), out s 80 _ (q .2), out s 88 _ (q .3))
+late-only b o s h d t m toDepth q f = (inn s 64 _ _ (q .0) (f .0), inn s 65 _ _ (q .1) (f .1 .0), out s 80 _ (q .2), out s 88 _ (q .3))
+late-only b o s h d t m toDtb q f =
+    (inn s 64 _ _ (q .0) (f .0), inn s 65 _ _ (q .1) (f .1 .0), inn s 80 _ _ (q .2) (f .1 .1 .1 .0), out s 88 _ (q .3))
+late-only b o s h d t m toSmbios q f =
+    (inn s 64 _ _ (q .0) (f .0), inn s 65 _ _ (q .1) (f .1 .0), inn s 80 _ _ (q .2) (f .1 .1 .1 .0), inn s 88 _ _ (q .3) (f .1 .1 .1 .1 .0))
 
 late-stored : (b : List ℕ) (o s : ℕ) → Holds b o 56 (lateFields s (memberAt b o s 56 8) (memberAt b o s 64 1) (memberAt b o s 72 8) (memberAt b o s 80 8))
 late-stored b o s = go (leb 64 s) (leb 65 s) (leb 80 s) (leb 88 s) refl refl refl refl
@@ -175,7 +190,8 @@ body-stored b o s t =
 pub body-only : (b : List ℕ) (o s : ℕ) (x : Body) → TypeSuits x → sizeSuits s x ≡ true → Holds b o 8 (bodyFields s x) → x ≡ decoded b o s (typeOf x)
 unfolding decoded
 body-only b o s (platform p) u q h =
-    let l = late-only b o s (p .higherHalfBase) (p .depth) (p .dtb) (p .smbios) (late-suits s p q .1) (h .1 .1 .1 .1 .1) in
+    let r = late-suits s p q .1 in
+    let l = late-only b o s (p .higherHalfBase) (p .depth) (p .dtb) (p .smbios) (late s _ _ _ _ r) r (h .1 .1 .1 .1 .1) in
     ap platform (λ i. record {
       platformType = sym (h .0) i;
       loaderMajor = sym (h .1 .0) i;
