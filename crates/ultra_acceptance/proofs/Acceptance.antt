@@ -166,10 +166,10 @@ pub one-context : OneContext
 one-context fewest b c d g h = decoded-only fewest (roomOf b) b c (g .0) (g .1) ∙ sym (decoded-only fewest (roomOf b) b d (h .0) (h .1))
 
 pub silent-bytes : SilentBytes
-silent-bytes fewest b d c g l h =
+silent-bytes fewest b d c g s =
     let m = g .0 in
     let n = length-cells (layout c) ∙ width-layout c (sized m) in
-    let p : Opens d c = opens-over b d (cells (layout c)) (g .1) (omega arith) (λ i k e. h i (omega arith) e) in
+    let p : Opens d c = opens-over b d (cells (layout c)) (g .1) (omega arith) (λ i k e. s .1 i (omega arith) e) in
     let w : Meets fewest (roomOf d) c = rehoused m (omega (arith, m .within)) in
     ((w, p), complete fewest d c w p ∙ sym (complete fewest b c m (g .1)))
 
@@ -209,5 +209,5 @@ reads-exactly b y =
     (λ e. let h = number-held b y (usedLength 2 b) refl e in (h .0, h .1, held-reading b (h .0) (h .1)), λ r. ap readingNumber (r .2))
 
 pub silent-reading : SilentReading
-silent-reading b d c h l e =
-    held-reading d c (silent-bytes 2 b d c h l e .0) ∙ sym (held-reading b c h)
+silent-reading b d c h s =
+    held-reading d c (silent-bytes 2 b d c h s .0) ∙ sym (held-reading b c h)

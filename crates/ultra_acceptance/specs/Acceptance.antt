@@ -28,13 +28,15 @@ AcceptsExactly = (fewest : ℕ) (b : List ℕ) (n : ℕ) → Bytes b → (usedLe
 abbrev pub OneContext : Type 0
 OneContext = (fewest : ℕ) (b : List ℕ) (c d : Context) → HeldBy fewest b c → HeldBy fewest b d → c ≡ d
 
--- "a second buffer of at least the used length, equal to the first up to there apart from bytes silent in the first", holds the same
--- context and is accepted alike
+-- of the context c that b holds, d is "a second buffer of at least the used length, equal to the first up to there apart from bytes
+-- silent in the first"
+abbrev pub DiffersInSilence : Context → List ℕ → List ℕ → Type 0
+DiffersInSilence c b d = (used c ≤ length d) × ((i : ℕ) → i < used c → (Silent c i → ⊥) → getD d i 0 ≡ getD b i 0)
+
+-- such a buffer holds the same context, and its used length is answered alike
 abbrev pub SilentBytes : Type 0
 SilentBytes =
-    (fewest : ℕ) (b d : List ℕ) (c : Context) → HeldBy fewest b c → used c ≤ length d
-    → ((i : ℕ) → i < used c → (Silent c i → ⊥) → getD d i 0 ≡ getD b i 0)
-    → HeldBy fewest d c × (usedLength fewest d ≡ usedLength fewest b)
+    (fewest : ℕ) (b d : List ℕ) (c : Context) → HeldBy fewest b c → DiffersInSilence c b d → HeldBy fewest d c × (usedLength fewest d ≡ usedLength fewest b)
 
 -- the version that "the list carries"
 abbrev pub versionIn : Context → Version
@@ -44,9 +46,6 @@ versionIn c = record { major = c .major; minor = c .minor }
 abbrev pub ReadsExactly : Type 0
 ReadsExactly = (b : List ℕ) → Bytes b → (readingNumber (readingOf b) ≡ 0) ↔ ((c : Context) × HeldBy 2 b c × (readingOf b ≡ Accepted (versionIn c) (used c)))
 
--- what reading answers of two buffers as in SilentBytes is the same
+-- and what reading answers of it is the same
 abbrev pub SilentReading : Type 0
-SilentReading =
-    (b d : List ℕ) (c : Context) → HeldBy 2 b c → used c ≤ length d
-    → ((i : ℕ) → i < used c → (Silent c i → ⊥) → getD d i 0 ≡ getD b i 0)
-    → readingOf d ≡ readingOf b
+SilentReading = (b d : List ℕ) (c : Context) → HeldBy 2 b c → DiffersInSilence c b d → readingOf d ≡ readingOf b

@@ -1,4 +1,5 @@
--- The rules can be met: the context of document 01's listing meets them, opens its bytes and is plain.
+-- The rules can be met: the context of document 01's listing meets them, opens its bytes and is plain. And a short platform has no
+-- late member.
 -- Assumes nothing.
 use Prim.Native.Nat.{ℕ, zero, suc, _<_}
 use mathlib.Core.Path.{_≡_, refl, sym, ap, _∙_, subst}
@@ -19,7 +20,7 @@ use Rattle.ultra_format.specs.Members.{every, sizeSuits, values, kernelV
 use Rattle.ultra_format.specs.Rules.{AttributeMeets, Meets}
 use Rattle.ultra_format.specs.Plain.{writtenSize, Plain}
 use Rattle.ultra_format.specs.Decoding.{contextOf, attributesFrom, start, decoded, entriesAt}
-use Rattle.ultra_format.specs.Examples.{listed, listedBytes}
+use Rattle.ultra_format.specs.Examples.{ShortPlatform, listed, listedBytes}
 use Rattle.ultra_format.proofs.Chains.{both-hold}
 use Rattle.ultra_format.proofs.Attributes.{Sized, Says, says-fits, says-opens}
 use Rattle.ultra_format.proofs.Decoded.{says-decoded}
@@ -125,3 +126,7 @@ listed-plain =
       zeros = λ i h e. ap (λ (l : List ℕ). getD l i 0) (sym listed-written) ∙ silent-zero (cells (layout listed)) i e;
       types = λ i h. kinds i h .1;
     }
+
+-- ---- a platform of 56 bytes
+pub short-platform : ShortPlatform
+short-platform b o = (refl, refl, refl, refl)

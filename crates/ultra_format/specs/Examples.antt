@@ -2,10 +2,19 @@
 -- listing does not show, are zero. proofs/Witness.antt shows that it meets the rules, opens those bytes and is plain.
 -- Assumes nothing.
 use Prim.Native.Nat.{ℕ}
+use mathlib.Core.Path.{_≡_}
 use mathlib.Core.List.{List, [], _∷_, _++_}
 use lib.ListN.{replicate}
+use Rattle.ultra_format.specs.Decoding.{platformAt}
 use Rattle.ultra_format.specs.Contexts.{Platform, Kernel, Entry, Context}
-use Rattle.ultra_format.specs.Contexts.{Member.present, Body.platform, Body.kernel, Body.memoryMap, Body.commandLine}
+use Rattle.ultra_format.specs.Contexts.{Member.present, Member.absent, Body.platform, Body.kernel, Body.memoryMap, Body.commandLine}
+
+-- 01, "Readings that look right and are not": "Reading dtb from a 56-byte platform attribute, out of the kernel attribute behind it."
+-- Whatever a buffer holds, such a platform has no late member.
+abbrev pub ShortPlatform : Type 0
+ShortPlatform =
+    (b : List ℕ) (o : ℕ) → let p = platformAt b o 56 in
+    (p .higherHalfBase ≡ absent) × (p .depth ≡ absent) × (p .dtb ≡ absent) × (p .smbios ≡ absent)
 
 abbrev pub zeros : ℕ → List ℕ
 zeros n = replicate n 0
