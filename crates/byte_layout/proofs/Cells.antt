@@ -1,12 +1,12 @@
 -- Cells that lie in a buffer: by index, as the definitions say it, and along the list, as proofs by induction want it.
 -- Assumes nothing.
 use Prim.Native.Nat.{ℕ, zero, suc, _+_, _≤_, _<_}
-use mathlib.Core.Path.{_≡_, refl, sym, _∙_}
+use mathlib.Core.Path.{_≡_, refl, sym, ap, _∙_}
 use mathlib.Core.List.{List, [], _∷_, _++_}
 use native.Mathlib.Omega.{arith}
 use native.Mathlib.Nat.{not-suc-le-zero, le-of-suc-le-suc, add-zero, zero-add}
 use lib.ListN.{length, getD}
-use Rattle.byte_layout.specs.Fields.{Cell, Opens, SilentAt}
+use Rattle.byte_layout.specs.Fields.{Cell, filled, Opens, SilentAt}
 use Rattle.byte_layout.specs.Fields.{Cell.byte, Cell.silent}
 
 -- the cells lie from `o` on
@@ -46,6 +46,24 @@ at-opens b cs f h = (f, λ i n l e. rw zero-add at (index b 0 cs h i n l e))
 pub opens-over : (b c : List ℕ) (cs : List Cell) → Opens b cs → length cs ≤ length c
     → ((i : ℕ) → i < length cs → (SilentAt cs i → ⊥) → getD c i 0 ≡ getD b i 0) → Opens c cs
 opens-over b c cs h l s = (l, λ i n k e. s i k (λ z. not-silent n (sym z ∙ e)) ∙ h .1 i n k e)
+
+-- ---- what a writer writes of cells: they open it
+pub length-filled : (cs : List Cell) → length (filled cs) ≡ length cs
+unfolding filled
+length-filled [] = refl
+length-filled (byte x ∷ cs) = ap suc (length-filled cs)
+length-filled (silent ∷ cs) = ap suc (length-filled cs)
+
+filled-byte : (cs : List Cell) (i n : ℕ) → getD cs i silent ≡ byte n → getD (filled cs) i 0 ≡ n
+unfolding filled
+filled-byte [] i n e = absurd (not-silent n e)
+filled-byte (byte m ∷ cs) zero n e = same-byte m n e
+filled-byte (byte m ∷ cs) (suc i) n e = filled-byte cs i n e
+filled-byte (silent ∷ cs) zero n e = absurd (not-silent n e)
+filled-byte (silent ∷ cs) (suc i) n e = filled-byte cs i n e
+
+pub filled-opens : (cs : List Cell) → Opens (filled cs) cs
+filled-opens cs = (omega (arith, length-filled cs), λ i n l e. filled-byte cs i n e)
 
 -- two runs of cells, one behind the other
 module _ (b : List ℕ) where

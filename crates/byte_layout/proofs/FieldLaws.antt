@@ -13,6 +13,7 @@ use Rattle.byte_layout.specs.Fields.{Cell, Field, bytes, silence, padded
 use Rattle.byte_layout.specs.Fields.{Field.number, Field.raw, Field.text, Field.padding}
 use Rattle.byte_layout.specs.Stored.{Bytes, bytesAt, upToZero, textAt}
 use Rattle.byte_layout.proofs.Cells.{At, at-front, at-append}
+use Rattle.byte_layout.proofs.Copies.{length-stored}
 use Rattle.byte_layout.proofs.Texts.{stops, goes-on}
 
 -- what a field says of the buffer that it lies in, at `p`
@@ -53,11 +54,6 @@ number-fits : (b : List ℕ) → Bytes b → (o k : ℕ) → numberAt b o k < 25
 unfolding numberAt
 number-fits b y o zero = omega arith
 number-fits b y o (suc k) = let r = number-fits b y (o + 1) k in omega (arith, y o)
-
-raw-length : (b : List ℕ) (o k : ℕ) → length (bytesAt b o k) ≡ k
-unfolding bytesAt
-raw-length b o zero = refl
-raw-length b o (suc k) = ap suc (raw-length b (o + 1) k)
 
 raw-byte : (b : List ℕ) → Bytes b → (o k i : ℕ) → i < k → getD (bytesAt b o k) i 0 < 256
 unfolding bytesAt
@@ -137,7 +133,7 @@ module _ (b : List ℕ) where
 
   field-fits : Bytes b → (p : ℕ) (f : Field) → FieldHolds b p f → FieldFits f
   field-fits y p (number k n) h = rw h at (number-fits b y p k)
-  field-fits y p (raw k l) h = subst (λ (m : List ℕ). FieldFits (raw k m)) h (raw-length b p k, raw-byte b y p k)
+  field-fits y p (raw k l) h = subst (λ (m : List ℕ). FieldFits (raw k m)) h (length-stored b p k, raw-byte b y p k)
   field-fits y p (text k l) h = subst (λ (m : List ℕ). FieldFits (text k m)) h (text-fits b y p k)
   field-fits y p (padding k) h = tt
 
@@ -186,6 +182,11 @@ module _ (b : List ℕ) where
   unfolding width
   holds-append o j i [] ys e g h = shift o i o j ys (omega arith) h
   holds-append o j i (f ∷ xs) ys e g h = (g .0, holds-append o (j + fieldWidth f) i xs ys (omega arith) (g .1) h)
+
+pub fits-front : (xs ys : List Field) → Fits (xs ++ ys) → Fits xs × Fits ys
+unfolding Fits
+fits-front [] ys r = (tt, r)
+fits-front (f ∷ xs) ys r = let t = fits-front xs ys (r .1) in ((r .0, t .0), t .1)
 
 pub width-append : (xs ys : List Field) → width (xs ++ ys) ≡ width xs + width ys
 unfolding width

@@ -1,3 +1,4 @@
 pub mod Texts
+pub mod Copies
 pub mod Cells
 pub mod FieldLaws

@@ -1,8 +1,8 @@
 -- What stands in a buffer at a field's place: raw bytes and texts. (Numbers: numberAt, of crate words.)
 -- Assumes nothing.
 use Prim.Native.Nat.{ℕ, zero, suc, _+_, _<_}
-use mathlib.Core.List.{List, [], _∷_}
-use lib.ListN.{getD}
+use mathlib.Core.List.{List, [], _∷_, _++_}
+use lib.ListN.{length, getD, drop}
 
 -- every element is a byte
 abbrev pub Bytes : List ℕ → Type 0
@@ -22,3 +22,7 @@ upToZero (suc x) l = suc x ∷ l
 unfoldable pub textAt : List ℕ → ℕ → ℕ → List ℕ
 textAt b o zero = []
 textAt b o (suc k) = upToZero (getD b o 0) (textAt b (o + 1) k)
+
+-- l over the front of `out`; what is behind it stays
+abbrev pub over : List ℕ → List ℕ → List ℕ
+over l out = l ++ drop (length l) out

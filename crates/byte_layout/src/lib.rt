@@ -1,8 +1,8 @@
-// Texts in fields of a byte layout. The layouts themselves are definitions: specs/Fields.antt and specs/Stored.antt.
+// Texts and raw bytes in fields of a byte layout. The layouts themselves are definitions: specs/Fields.antt and specs/Stored.antt.
 ghost use mathlib.Core.Path.{_≡_};
 ghost use Prim.Native.Nat.{_+_, _≤_};
 ghost use lib.ListN.{length};
-ghost use Rattle.byte_layout.specs.Stored.{textAt};
+ghost use Rattle.byte_layout.specs.Stored.{bytesAt, textAt, over};
 
 // How long the text in the `width` bytes from `at` on is: `width` where no zero closes it.
 pub fn text_length(bytes: &[u8], at: usize, width: usize) -> usize
@@ -17,4 +17,25 @@ pub fn text_length(bytes: &[u8], at: usize, width: usize) -> usize
         n += 1;
     }
     n
+}
+
+// Copies the `n` bytes from `at` on to the front of `out`; what is behind them stays.
+pub fn copy(bytes: &[u8], at: usize, n: usize, out: &mut [u8])
+    requires { ⌜ (at + n ≤ length (now bytes)) × (n ≤ length (now out)) ⌝ }
+    ensures { λ _. ⌜ now (out .exit) ≡ over (bytesAt (now (bytes .entry)) at n) (now (out .entry)) ⌝ }
+{
+    let mut i = 0;
+    while i < n {
+        out[i] = bytes[at + i];
+        i += 1;
+    }
+}
+
+// Copies the text in a field as wide as `out`, from `at` on, to the front of `out`; what is behind it stays.
+pub fn copy_text(bytes: &[u8], at: usize, out: &mut [u8])
+    requires { ⌜ at + length (now out) ≤ length (now bytes) ⌝ }
+    ensures { λ _. ⌜ now (out .exit) ≡ over (textAt (now (bytes .entry)) at (length (now (out .entry)))) (now (out .entry)) ⌝ }
+{
+    let n = text_length(bytes, at, out.len());
+    copy(bytes, at, n, out);
 }
