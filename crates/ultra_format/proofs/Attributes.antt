@@ -13,7 +13,7 @@ use Rattle.words.specs.Words.{numberAt, u32At}
 use Rattle.byte_layout.specs.Fields.{cells, width, Fits}
 use Rattle.byte_layout.specs.Stored.{Bytes}
 use Rattle.byte_layout.proofs.Cells.{opens-at, at-opens}
-use Rattle.byte_layout.proofs.FieldLaws.{Holds, shift, holds-front, holds-append, holds-fit, from-cells, to-cells, length-cells, width-append}
+use Rattle.byte_layout.proofs.FieldLaws.{Holds, shift, holds-front, holds-append, holds-fit, from-cells, to-cells, length-cells, fits-front, width-append}
 use Rattle.ultra_format.specs.Contexts.{Member, Body, typeOf, Attribute, Context, count, sizeAt, bodyAt, total, startIn, used}
 use Rattle.ultra_format.specs.Contexts.{Body.platform, Body.kernel, Body.memoryMap, Body.moduleInfo, Body.commandLine, Body.framebuffer, Body.other}
 use Rattle.ultra_format.specs.Layouts.{bodyFields, attributeFields, attributesFields, layout, Opens}
@@ -61,6 +61,12 @@ width-attributes (a ∷ l) z =
     width-append (attributeFields a) (attributesFields l)
     ∙ ap₂ (λ (x y : ℕ). x + y) (z 0 (omega arith)) (width-attributes l (λ i h. z (suc i) (omega arith)))
 
+each-fits : (l : List Attribute) → Fits (attributesFields l) → (i : ℕ) → i < length l → Fits (attributeFields (at l i))
+unfolding attributesFields
+each-fits [] f i h = absurd (not-suc-le-zero h)
+each-fits (a ∷ l) f zero h = fits-front (attributeFields a) (attributesFields l) f .0
+each-fits (a ∷ l) f (suc i) h = each-fits l (fits-front (attributeFields a) (attributesFields l) f .1) i (le-of-suc-le-suc h)
+
 module _ (b : List ℕ) where
   each : (l : List Attribute) (o j : ℕ) → Sized l → Holds b o j (attributesFields l)
       → (i : ℕ) → i < length l → Holds b (o + j + total (take i l)) 0 (attributeFields (at l i))
@@ -90,6 +96,11 @@ sized {c = c} m i h = let a = m .each i h in width-attribute (sizeAt c i) (bodyA
 pub width-layout : (c : Context) → Sized (c .attributes) → width (layout c) ≡ used c
 unfolding width
 width-layout c z = let e = width-attributes (c .attributes) z in omega arith
+
+-- what the body at an index fits: its fields, behind type and size
+pub body-fits : {fewest room : ℕ} {c : Context} → Meets fewest room c → (i : ℕ) → i < count c → Fits (bodyFields (sizeAt c i) (bodyAt c i))
+unfolding Fits
+body-fits {c = c} m i h = each-fits (c .attributes) (m .fits .1 .1 .1 .1) i h .1 .1
 
 -- the fields of an attribute at `o`
 pub record Stored (b : List ℕ) (o : ℕ) (a : Attribute) : Type 0 where

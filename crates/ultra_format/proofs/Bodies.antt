@@ -10,10 +10,11 @@ use lib.ListN.{length}
 use lib.Dec.{leb, eqb}
 use borrow.Author.Tests.{leb-true, leb-false, eqb-true, eqb-false, ne-eqb}
 use Rattle.words.specs.Words.{numberAt}
-use Rattle.byte_layout.specs.Fields.{Field, width}
+use Rattle.byte_layout.specs.Fields.{Field, cells, width, Fits, filled}
 use Rattle.byte_layout.specs.Fields.{Field.padding}
 use Rattle.byte_layout.specs.Stored.{textAt}
-use Rattle.byte_layout.proofs.FieldLaws.{Holds}
+use Rattle.byte_layout.proofs.Cells.{opens-at, length-filled, filled-opens}
+use Rattle.byte_layout.proofs.FieldLaws.{Holds, length-cells, from-cells}
 use Rattle.ultra_format.specs.Contexts.{Member, Platform, Entry, Body, typeOf}
 use Rattle.ultra_format.specs.Contexts.{Member.present, Member.absent, Body.platform, Body.kernel, Body.memoryMap, Body.moduleInfo, Body.commandLine, Body.framebuffer, Body.other}
 use Rattle.ultra_format.specs.Layouts.{memberFields, depthFields, entriesFields, bodyFields}
@@ -77,6 +78,15 @@ entries-only b o j (e ∷ es) h =
     let q16 : o + j + 16 ≡ o + (j + 8 + 8) = omega arith in
     let q24 : o + j + 24 ≡ o + (j + 8 + 8 + 8) = omega arith in
     ap₂ (λ (x : Entry) (l : List Entry). x ∷ l) (rw (q8, q16, h .0, h .1 .0, h .1 .1 .0)) (rw q24 (entries-only b o (j + 8 + 8 + 8) es (h .1 .1 .1)))
+
+-- the bytes that are written of entries say those entries
+pub entries-written : (es : List Entry) → Fits (entriesFields es) → entriesAt (filled (cells (entriesFields es))) 0 (length es) ≡ es
+entries-written es f =
+    let cs = cells (entriesFields es) in
+    sym (entries-only (filled cs) 0 0 es (from-cells (filled cs) 0 0 0 (entriesFields es) refl f (opens-at (filled cs) cs (filled-opens cs))))
+
+pub length-written : (es : List Entry) → length (filled (cells (entriesFields es))) ≡ 24 * length es
+length-written es = length-filled (cells (entriesFields es)) ∙ length-cells (entriesFields es) ∙ width-entries es
 
 -- ---- the platform's late members: a member that ends at `e` is there just where the size reaches it
 pub shown : (t : Bool) (n : ℕ) → presentIf t (present n) ≡ true → t ≡ true

@@ -1,5 +1,7 @@
 pub mod Chains
 pub mod Bodies
+pub mod Sizes
 pub mod Attributes
 pub mod Decoded
+pub mod Given
 pub mod Witness

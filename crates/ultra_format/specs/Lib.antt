@@ -7,4 +7,5 @@ pub mod Rules
 pub mod Plain
 pub mod Places
 pub mod Decoding
+pub mod Records
 pub mod Examples

@@ -1,6 +1,15 @@
-// The numbers and answers that the calls share. The format itself is defined in specs/.
+// The numbers, answers and records that the calls share. The format itself is defined in specs/.
+mod records;
+
 ghost use mathlib.Core.Path.{_≡_};
 ghost use Rattle.ultra_format.specs.Answers.{refusal};
+pub use records::FramebufferRecord;
+pub use records::KernelRecord;
+pub use records::ModuleRecord;
+pub use records::OptionalU8;
+pub use records::OptionalU64;
+pub use records::PlatformRecord;
+pub use records::Records;
 
 // Document 01, "Numbers a call can give back".
 pub const SHORT: u32 = 1;
