@@ -1,5 +1,6 @@
--- The context of document 01's listing, as a list and as its 480 bytes, written out by hand from 01's table; its GUIDs, which the
--- listing does not show, are zero. proofs/Witness.antt shows that it meets the rules, opens those bytes and is plain.
+-- Two contexts, each as a list and as bytes that were written out by hand from document 01's table: that of 01's listing, in 480
+-- bytes, whose GUIDs, which the listing does not show, are zero; and one with every type of attribute, in whose bytes no silent byte
+-- is zero. proofs/Witness.antt shows that both meet the rules and open their bytes, and that the first is plain.
 -- Assumes nothing.
 use Prim.Native.Nat.{ℕ}
 use mathlib.Core.Path.{_≡_}
@@ -7,7 +8,7 @@ use mathlib.Core.List.{List, [], _∷_, _++_}
 use lib.ListN.{replicate}
 use Rattle.ultra_format.specs.Decoding.{platformAt}
 use Rattle.ultra_format.specs.Contexts.{Platform, Kernel, Entry, Context}
-use Rattle.ultra_format.specs.Contexts.{Member.present, Member.absent, Body.platform, Body.kernel, Body.memoryMap, Body.commandLine}
+use Rattle.ultra_format.specs.Contexts.{Member.present, Member.absent, Body.platform, Body.kernel, Body.memoryMap, Body.moduleInfo, Body.commandLine, Body.framebuffer, Body.other}
 
 -- 01, "Readings that look right and are not": "Reading dtb from a 56-byte platform attribute, out of the kernel attribute behind it."
 -- Whatever a buffer holds, such a platform has no late member.
@@ -99,3 +100,115 @@ commandLineBytes = (5 ∷ 0 ∷ 0 ∷ 0 ∷ 16 ∷ 0 ∷ 0 ∷ 0 ∷ []) ++ (113
 
 abbrev pub listedBytes : List ℕ
 listedBytes = (1 ∷ 0 ∷ 0 ∷ 0 ∷ 4 ∷ 0 ∷ 0 ∷ 0 ∷ []) ++ platformBytes ++ kernelBytes ++ mapBytes ++ commandLineBytes
+
+-- ---- every type
+-- Each type once, no two members of one record alike, every kind of silent byte, and 01's rules at their edges: a path that is "otherwise
+-- free"; entries that touch, the last of a map type whose low 32 bits are zero; a pitch that is just enough; ranges that end at 2^64.
+abbrev pub everyPlatform : Platform
+everyPlatform =
+    record {
+      platformType = 67305985;
+      loaderMajor = 258;
+      loaderMinor = 772;
+      name = 98 ∷ [];
+      rsdp = 578437695752307201;
+      higherHalfBase = present 2314601843866147353;
+      depth = present 5;
+      dtb = present 1157159078456920585;
+      smbios = present 1735880461161533969;
+    }
+
+abbrev pub everyKernel : Kernel
+everyKernel =
+    record {
+      physicalBase = 4294971392;
+      virtualBase = 18446744071562072064;
+      size = 69632;
+      partitionType = 3;
+      diskGuid = 1 ∷ 2 ∷ 3 ∷ 4 ∷ 5 ∷ 6 ∷ 7 ∷ 8 ∷ 9 ∷ 10 ∷ 11 ∷ 12 ∷ 13 ∷ 14 ∷ 15 ∷ 16 ∷ [];
+      partitionGuid = 255 ∷ 254 ∷ 253 ∷ 252 ∷ 251 ∷ 250 ∷ 249 ∷ 248 ∷ 247 ∷ 246 ∷ 245 ∷ 244 ∷ 243 ∷ 242 ∷ 241 ∷ 240 ∷ [];
+      diskIndex = 513;
+      partitionIndex = 1027;
+      path = 47 ∷ 107 ∷ 195 ∷ 169 ∷ [];
+    }
+
+abbrev pub everyMap : List Entry
+everyMap =
+    record { address = 0; size = 18446744073709547520; entryType = 1 }
+    ∷ record { address = 18446744073709547520; size = 4096; entryType = 4294967296 }
+    ∷ []
+
+abbrev pub everyType : Context
+everyType =
+    record {
+      major = 2;
+      minor = 7;
+      attributes =
+          record { size = 96; body = platform everyPlatform }
+          ∷ record { size = 344; body = kernel everyKernel }
+          ∷ record { size = 56; body = memoryMap everyMap }
+          ∷ record { size = 104; body = moduleInfo (record { moduleType = 2; name = 109 ∷ []; address = 8589934592; size = 4097 }) }
+          ∷ record { size = 24; body = commandLine (110 ∷ 111 ∷ 97 ∷ 112 ∷ 105 ∷ 99 ∷ 61 ∷ 49 ∷ []) }
+          ∷ record { size = 40; body = framebuffer (record { width = 1024; height = 768; pitch = 4096; bpp = 32; format = 3; address = 18446744073706405888 }) }
+          ∷ record { size = 16; body = other 7 }
+          ∷ [];
+    }
+
+-- what stands in silent bytes
+abbrev pub junk : ℕ → List ℕ
+junk n = replicate n 165
+
+-- 688 bytes are used, and five silent ones are behind them
+abbrev pub everyTypeBytes : List ℕ
+everyTypeBytes =
+    (2 ∷ 7 ∷ 165 ∷ 165 ∷ 7 ∷ 0 ∷ 0 ∷ 0 ∷ [])
+    -- platform
+    ++ (1 ∷ 0 ∷ 0 ∷ 0 ∷ 96 ∷ 0 ∷ 0 ∷ 0 ∷ [])
+    ++ (1 ∷ 2 ∷ 3 ∷ 4 ∷ 2 ∷ 1 ∷ 4 ∷ 3 ∷ [])
+    ++ (98 ∷ 0 ∷ junk 30)
+    ++ (1 ∷ 2 ∷ 3 ∷ 4 ∷ 5 ∷ 6 ∷ 7 ∷ 8 ∷ [])
+    ++ (25 ∷ 26 ∷ 27 ∷ 28 ∷ 29 ∷ 30 ∷ 31 ∷ 32 ∷ [])
+    ++ (5 ∷ junk 7)
+    ++ (9 ∷ 10 ∷ 11 ∷ 12 ∷ 13 ∷ 14 ∷ 15 ∷ 16 ∷ [])
+    ++ (17 ∷ 18 ∷ 19 ∷ 20 ∷ 21 ∷ 22 ∷ 23 ∷ 24 ∷ [])
+    ++ junk 8
+    -- kernel
+    ++ (2 ∷ 0 ∷ 0 ∷ 0 ∷ 88 ∷ 1 ∷ 0 ∷ 0 ∷ [])
+    ++ (0 ∷ 16 ∷ 0 ∷ 0 ∷ 1 ∷ 0 ∷ 0 ∷ 0 ∷ [])
+    ++ (0 ∷ 16 ∷ 0 ∷ 128 ∷ 255 ∷ 255 ∷ 255 ∷ 255 ∷ [])
+    ++ (0 ∷ 16 ∷ 1 ∷ 0 ∷ 0 ∷ 0 ∷ 0 ∷ 0 ∷ [])
+    ++ (3 ∷ zeros 7)
+    ++ (1 ∷ 2 ∷ 3 ∷ 4 ∷ 5 ∷ 6 ∷ 7 ∷ 8 ∷ 9 ∷ 10 ∷ 11 ∷ 12 ∷ 13 ∷ 14 ∷ 15 ∷ 16 ∷ [])
+    ++ (255 ∷ 254 ∷ 253 ∷ 252 ∷ 251 ∷ 250 ∷ 249 ∷ 248 ∷ 247 ∷ 246 ∷ 245 ∷ 244 ∷ 243 ∷ 242 ∷ 241 ∷ 240 ∷ [])
+    ++ (1 ∷ 2 ∷ 0 ∷ 0 ∷ 3 ∷ 4 ∷ 0 ∷ 0 ∷ [])
+    ++ (47 ∷ 107 ∷ 195 ∷ 169 ∷ 0 ∷ junk 251)
+    ++ junk 8
+    -- map
+    ++ (3 ∷ 0 ∷ 0 ∷ 0 ∷ 56 ∷ 0 ∷ 0 ∷ 0 ∷ [])
+    ++ zeros 8
+    ++ (0 ∷ 240 ∷ 255 ∷ 255 ∷ 255 ∷ 255 ∷ 255 ∷ 255 ∷ [])
+    ++ (1 ∷ zeros 7)
+    ++ (0 ∷ 240 ∷ 255 ∷ 255 ∷ 255 ∷ 255 ∷ 255 ∷ 255 ∷ [])
+    ++ (0 ∷ 16 ∷ 0 ∷ 0 ∷ 0 ∷ 0 ∷ 0 ∷ 0 ∷ [])
+    ++ (0 ∷ 0 ∷ 0 ∷ 0 ∷ 1 ∷ 0 ∷ 0 ∷ 0 ∷ [])
+    -- module
+    ++ (4 ∷ 0 ∷ 0 ∷ 0 ∷ 104 ∷ 0 ∷ 0 ∷ 0 ∷ [])
+    ++ (165 ∷ 165 ∷ 165 ∷ 165 ∷ 2 ∷ 0 ∷ 0 ∷ 0 ∷ [])
+    ++ (109 ∷ 0 ∷ junk 62)
+    ++ (0 ∷ 0 ∷ 0 ∷ 0 ∷ 2 ∷ 0 ∷ 0 ∷ 0 ∷ [])
+    ++ (1 ∷ 16 ∷ 0 ∷ 0 ∷ 0 ∷ 0 ∷ 0 ∷ 0 ∷ [])
+    ++ junk 8
+    -- command line
+    ++ (5 ∷ 0 ∷ 0 ∷ 0 ∷ 24 ∷ 0 ∷ 0 ∷ 0 ∷ [])
+    ++ (110 ∷ 111 ∷ 97 ∷ 112 ∷ 105 ∷ 99 ∷ 61 ∷ 49 ∷ 0 ∷ junk 7)
+    -- framebuffer
+    ++ (6 ∷ 0 ∷ 0 ∷ 0 ∷ 40 ∷ 0 ∷ 0 ∷ 0 ∷ [])
+    ++ (0 ∷ 4 ∷ 0 ∷ 0 ∷ 0 ∷ 3 ∷ 0 ∷ 0 ∷ [])
+    ++ (0 ∷ 16 ∷ 0 ∷ 0 ∷ 32 ∷ 0 ∷ 3 ∷ 0 ∷ [])
+    ++ (0 ∷ 0 ∷ 208 ∷ 255 ∷ 255 ∷ 255 ∷ 255 ∷ 255 ∷ [])
+    ++ junk 8
+    -- type 7
+    ++ (7 ∷ 0 ∷ 0 ∷ 0 ∷ 16 ∷ 0 ∷ 0 ∷ 0 ∷ [])
+    ++ junk 8
+    -- past the used length
+    ++ junk 5

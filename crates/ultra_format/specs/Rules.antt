@@ -3,7 +3,6 @@
 use Prim.Native.Nat.{ℕ, _%_, _≤_, _<_}
 use mathlib.Core.Path.{_≡_}
 use mathlib.Core.Bool.{true}
-use lib.ListN.{length}
 use Rattle.byte_layout.specs.Fields.{Fits}
 use Rattle.ultra_format.specs.Contexts.{Body, Context, count, sizeAt, bodyAt, typeAt, used}
 use Rattle.ultra_format.specs.Contexts.{Body.platform, Body.kernel, Body.memoryMap, Body.moduleInfo, Body.commandLine, Body.framebuffer, Body.other}

@@ -1,13 +1,14 @@
--- The cases that document 01 marks * hold, and the context of its listing is accepted, by computing the definitions.
+-- The cases that document 01 marks * hold, and the context of its listing and one with every type are accepted, by computing the
+-- definitions.
 -- Assumes nothing.
 use mathlib.Core.Path.{_≡_, refl}
 use Rattle.words.specs.Words.{numberAt}
 use Rattle.byte_layout.specs.Stored.{bytesAt, textAt}
-use Rattle.ultra_format.specs.Members.{every, sizeSuits, values, kernelValues, texts, asciiText, pathText, ranges, ordered, entriesOrdered, bodyFault}
+use Rattle.ultra_format.specs.Members.{every, sizeSuits, values, kernelValues, moduleValues, bppSuits, framebufferValues, texts, asciiText, pathText, ranges, ordered, entriesOrdered, bodyFault}
 use Rattle.ultra_format.specs.Places.{placed, occurs, placeFault}
 use Rattle.ultra_format.specs.Plain.{writtenSize}
 use Rattle.ultra_format.specs.Decoding.{entriesAt, decoded, start, typesBefore}
-use Rattle.ultra_format.specs.Examples.{listedBytes}
+use Rattle.ultra_format.specs.Examples.{listedBytes, everyTypeBytes}
 use Rattle.ultra_reading.specs.Reading.{headFault, boundsFault, attributeFault, attributesAnswer, usedLength, readingOf}
 use Rattle.ultra_reading.specs.Cases.{AllHold, cases}
 use Rattle.ultra_reading.specs.declared.Reading.the-variants.{Accepted}
@@ -23,3 +24,8 @@ starred = (
 pub listed-accepted : readingOf listedBytes ≡ Accepted (record { major = 1; minor = 0 }) 480
 unfolding numberAt textAt bytesAt entriesAt every sizeSuits values kernelValues texts asciiText pathText ranges ordered entriesOrdered bodyFault placed occurs placeFault decoded start typesBefore headFault boundsFault attributeFault attributesAnswer usedLength readingOf
 listed-accepted = refl
+
+-- a context with every type is accepted, with no silent byte zero, and its used length is not the buffer's
+pub every-type-accepted : readingOf everyTypeBytes ≡ Accepted (record { major = 2; minor = 7 }) 688
+unfolding numberAt textAt bytesAt entriesAt every sizeSuits values kernelValues moduleValues bppSuits framebufferValues texts asciiText pathText ranges ordered entriesOrdered bodyFault placed occurs placeFault decoded start typesBefore headFault boundsFault attributeFault attributesAnswer usedLength readingOf
+every-type-accepted = refl
