@@ -5,7 +5,7 @@ use Prim.Native.Nat.{ℕ, zero, suc, _≤_, _<_}
 use mathlib.Core.Path.{_≡_, refl, sym, ap, _∙_, subst}
 use mathlib.Core.List.{List}
 use native.Mathlib.Omega.{arith}
-use lib.ListN.{length, getD}
+use lib.ListN.{getD}
 use Rattle.byte_layout.specs.Fields.{cells}
 use Rattle.byte_layout.specs.Stored.{Bytes}
 use Rattle.byte_layout.proofs.Cells.{opens-over}
@@ -175,7 +175,7 @@ silent-bytes fewest b d c g s =
 
 -- ---- reading
 -- what reading answers of a buffer that holds a context
-held-reading : (b : List ℕ) (c : Context) → HeldBy 2 b c → readingOf b ≡ reading.Accepted (versionIn c) (used c)
+pub held-reading : (b : List ℕ) (c : Context) → HeldBy 2 b c → readingOf b ≡ reading.Accepted (versionIn c) (used c)
 unfolding readingOf contextOf
 held-reading b c h =
     let q = decoded-only 2 (roomOf b) b c (h .0) (h .1) in

@@ -1,3 +1,6 @@
 pub mod Types
 pub mod Walked
 pub mod Acceptance
+pub mod Least
+pub mod Rows
+pub mod Refusing

@@ -1,6 +1,6 @@
--- Statements: reading accepts exactly the contexts that meet the rules, there is one at most, and silent bytes never change what is
--- read. They are proved in proofs/Acceptance.antt. Those with `fewest` speak of every lower limit of the count, so of what adding reads
--- too. Of a buffer only that its elements are bytes is assumed, and that only where it is needed.
+-- Statements on which demand 3 rests (it stands whole in crate demand_3): reading accepts exactly the contexts that meet the rules, there
+-- is one at most, and silent bytes never change what is read. They are proved in proofs/Acceptance.antt. Those with `fewest` speak of
+-- every lower limit of the count, so of what adding reads too. Of a buffer only that its elements are bytes is assumed, and that only where it is needed.
 -- Assumes nothing.
 use Prim.Native.Nat.{ℕ, _≤_, _<_}
 use mathlib.Core.Path.{_≡_}
@@ -38,7 +38,7 @@ abbrev pub SilentBytes : Type 0
 SilentBytes =
     (fewest : ℕ) (b d : List ℕ) (c : Context) → HeldBy fewest b c → DiffersInSilence c b d → HeldBy fewest d c × (usedLength fewest d ≡ usedLength fewest b)
 
--- the version that "the list carries"
+-- the version of a list: "The list carries the version"
 abbrev pub versionIn : Context → Version
 versionIn c = record { major = c .major; minor = c .minor }
 
