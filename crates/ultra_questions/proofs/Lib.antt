@@ -1,0 +1,11 @@
+pub mod Located
+pub mod Searches
+pub mod BodyLaws
+pub mod AttributeLaws
+pub mod MapLaws
+pub mod LineLaws
+pub mod ModuleLaws
+pub mod PartCells
+pub mod ByContext
+pub mod FirstByIndex
+pub mod QuestionRefusals

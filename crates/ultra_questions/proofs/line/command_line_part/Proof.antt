@@ -1,0 +1,112 @@
+-- `ultra_questions::line::command_line_part` meets its contract.
+-- Assumes nothing.
+use Prim.Native.Nat.{ℕ, _+_}
+use mathlib.Core.Path.{_≡_, sym, ap, ap₂, _∙_}
+use native.Mathlib.Omega.{arith}
+use denote.Ref.{now}
+use Rattle.words.specs.Words.{u32At}
+use Rattle.ultra_format.specs.Members.{sizeSuits}
+use Rattle.ultra_format.specs.Decoding.{decoded, start, storedSize, storedCount, storedAttribute, contextOf}
+use Rattle.ultra_questions.specs.Passing.{Accepts}
+use Rattle.ultra_questions.specs.Parts.{bodyPart}
+use Rattle.ultra_questions.specs.Searching.{firstIn, foundStart, ofType}
+use Rattle.ultra_questions.proofs.Located.{Inside, inside, body-at}
+use Rattle.ultra_questions.proofs.Searches.{FoundAt, found-at, none-at, type-said}
+use Rattle.ultra_questions.proofs.LineLaws.{line-passed, line-found}
+use borrow.Author.Needs.{needs}
+use Rattle.ultra_questions.proofs.line.command_line_part.Statement.{statement}
+use Rattle.ultra_questions.proofs.line.command_line_part.Tie as tie
+
+used-length-requires : tie.Need-used-length-requires
+used-length-requires c κs = search needs
+
+enum-told : tie.Need-enum-told
+enum-told c = search needs
+
+enum-told-2 : tie.Need-enum-told-2
+enum-told-2 c = search needs
+
+none-requires : tie.Need-none-requires
+none-requires c κs = search needs
+
+returns : tie.Need-returns
+returns c =
+    let t = c .before in
+    let u = t .before .before in
+    c .none .ensures ∙ line-passed (now (u .before .before .args .buf)) (sym (u .used-length .ensures) ∙ t .enum-told2 .given .1)
+
+-- behind the `let .. else`, reading has accepted the buffer
+abbrev accepts : (c : tie.After-enum-told) → Accepts (now (c .before .before .before .before .args .buf))
+accepts c = let u = c .before .before in (_, sym (u .used-length .ensures) ∙ c .enum-told .given .1)
+
+first-of-type-requires : tie.Need-first-of-type-requires
+first-of-type-requires c κs = accepts c
+
+none-requires-2 : tie.Need-none-requires-2
+none-requires-2 c κs = search needs
+
+returns-2 : tie.Need-returns-2
+returns-2 c =
+    let f = c .before .before in
+    let a = accepts (f .before) in
+    let b = now (f .before .before .before .before .before .args .buf) in
+    c .none2 .ensures ∙ line-found b (a .1) (none-at (ofType 5) b (sym (f .first-of-type .ensures) ∙ c .before .if1 .taken))
+
+cast-load-u32 : tie.Need-cast-load-u32
+cast-load-u32 c = search needs
+
+add-load-u32 : tie.Need-add-load-u32
+add-load-u32 c = search needs
+
+-- there is a command line, at `start`
+line : (c : tie.Else1) → FoundAt (ofType 5) (now (c .before .before .before .before .before .before .args .buf)) (storedCount (now (c .before .before .before .before .before .before .args .buf))) (firstIn (ofType 5) (contextOf (now (c .before .before .before .before .before .before .args .buf))))
+line c = found-at (ofType 5) _ (λ z. c .if1 .left (c .before .first-of-type .ensures ∙ z))
+
+at : (c : tie.Else1) → c .before .first-of-type .result ≡ start (now (c .before .before .before .before .before .before .args .buf)) (line c .index)
+at c = c .before .first-of-type .ensures ∙ ap foundStart (line c .is)
+
+here : (c : tie.Else1) → Inside (now (c .before .before .before .before .before .before .args .buf)) (line c .index)
+here c = inside _ (accepts (c .before .before)) _ (line c .below)
+
+load-u32-requires : tie.Need-load-u32-requires
+load-u32-requires c κs = omega (arith, at c, here c)
+
+size : (c : tie.After-load-u32) → c .load-u32 .result ≡ storedSize (now (c .before .before .before .before .before .before .before .args .buf)) (line (c .before) .index)
+size c = c .load-u32 .ensures ∙ ap (λ (o : ℕ). u32At (now (c .before .before .before .before .before .before .before .args .buf)) (o + 4)) (at (c .before))
+
+-- its body is that of a command line
+body : (c : tie.After-load-u32)
+    → decoded (now (c .before .before .before .before .before .before .before .args .buf)) (c .before .before .first-of-type .result) (c .load-u32 .result) 5 ≡ storedAttribute (now (c .before .before .before .before .before .before .before .args .buf)) (line (c .before) .index) .body
+body c = let f = line (c .before) in body-at _ (f .index) _ _ 5 (at (c .before)) (size c) (sym (type-said _ (f .index) 5 (f .meets)))
+
+of-body-requires : tie.Need-of-body-requires
+of-body-requires c κs =
+    let e = at (c .before) in
+    let z = size c in
+    let w = here (c .before) in
+    ((omega arith, omega arith), ap₂ sizeSuits z (body c) ∙ w .suits)
+
+returns-3 : tie.Need-returns-3
+returns-3 c =
+    let z = c .before in
+    let e = z .before in
+    let a = accepts (e .before .before) in
+    c .of-body .ensures ∙ ap₂ bodyPart (at e) (body z) ∙ line-found _ (a .1) (line e .is)
+
+pub command-line-part-spec : {M : Type 1} → statement M
+command-line-part-spec =
+    tie.close
+    (tie.spec
+    used-length-requires
+    enum-told
+    enum-told-2
+    none-requires
+    returns
+    first-of-type-requires
+    none-requires-2
+    returns-2
+    cast-load-u32
+    add-load-u32
+    load-u32-requires
+    of-body-requires
+    returns-3)

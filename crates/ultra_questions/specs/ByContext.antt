@@ -1,0 +1,24 @@
+-- Statement: each question answers by the context that the buffer holds, and the command line's part has its text. Proved in
+-- proofs/ByContext.antt: `questions-by-context`.
+-- Assumes nothing.
+use Prim.Native.Nat.{ℕ}
+use mathlib.Core.Path.{_≡_}
+use mathlib.Core.List.{List}
+use Rattle.byte_layout.specs.Stored.{bytesAt}
+use Rattle.ultra_format.specs.Contexts.{Context, attributeAt}
+use Rattle.ultra_acceptance.specs.Acceptance.{HeldBy}
+use Rattle.ultra_questions.specs.AttributeQuestion.{startOrCount, withMembers, attributeStart, attributeAnswer}
+use Rattle.ultra_questions.specs.MapQuestion.{mapIn, mapCopied}
+use Rattle.ultra_questions.specs.CommandLineQuestion.{commandLineIn, textIn, commandLinePart}
+use Rattle.ultra_questions.specs.ModuleQuestion.{moduleIn, moduleHolding}
+
+pub record ByContext (b : List ℕ) (c : Context) : Type 0 where
+  pub starts : (i : ℕ) → attributeStart b i ≡ startOrCount c i
+  pub attributes : (i : ℕ) → attributeAnswer b i ≡ withMembers (attributeAt c i) (startOrCount c i)
+  pub maps : (out : List ℕ) → mapCopied b out ≡ mapIn c out
+  pub line : commandLinePart b ≡ commandLineIn c
+  pub text : bytesAt b (commandLinePart b .start) (commandLinePart b .length) ≡ textIn c
+  pub modules : (a : ℕ) → moduleHolding b a ≡ moduleIn c a
+
+abbrev pub QuestionsByContext : Type 0
+QuestionsByContext = (b : List ℕ) (c : Context) → HeldBy 2 b c → ByContext b c

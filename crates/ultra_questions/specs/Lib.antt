@@ -1,0 +1,9 @@
+pub mod Passing
+pub mod Parts
+pub mod Searching
+pub mod AttributeQuestion
+pub mod MapQuestion
+pub mod CommandLineQuestion
+pub mod ModuleQuestion
+pub mod ByContext
+pub mod QuestionRefusals

@@ -1,0 +1,55 @@
+-- "The map copied out as 64-bit numbers; 19 then 18, both with the used length; elements past the last triple stay. Success answers the
+-- number of entries."
+-- Assumes nothing.
+use Prim.Native.Nat.{ℕ, zero, suc, _+_, _*_}
+use mathlib.Core.List.{List, [], _∷_}
+use lib.ListN.{length}
+use lib.Dec.{leb}
+use Rattle.words.specs.Words.{u64At}
+use Rattle.byte_layout.specs.Stored.{over}
+use Rattle.ultra_format.specs.Refusals.{ROOM, ABSENT}
+use Rattle.ultra_format.specs.Answers.{refused}
+use Rattle.ultra_format.specs.Contexts.{Entry, Body, Context, used}
+use Rattle.ultra_format.specs.Contexts.{Body.platform, Body.kernel, Body.memoryMap, Body.moduleInfo, Body.commandLine, Body.framebuffer, Body.other}
+use Rattle.ultra_format.specs.Decoding.{pick, contextOf}
+use Rattle.ultra_format.specs.declared.Answer.{Answer}
+use Rattle.ultra_format.specs.declared.Answer.the-variants.{Done}
+use Rattle.ultra_reading.specs.Reading.{usedLength}
+use Rattle.ultra_questions.specs.Passing.{ifAccepted}
+use Rattle.ultra_questions.specs.Searching.{Found, Found.none, Found.found, firstIn, ofType}
+
+-- "64-bit numbers, three to an entry"
+unfoldable pub numbers : List Entry → List ℕ
+numbers [] = []
+numbers (e ∷ es) = e .address ∷ e .size ∷ e .entryType ∷ numbers es
+
+-- n numbers of 64 bits in `b` from `o` on
+unfoldable pub numbersAt : List ℕ → ℕ → ℕ → List ℕ
+numbersAt b o zero = []
+numbersAt b o (suc n) = u64At b o ∷ numbersAt b (o + 8) n
+
+abbrev pub entriesOf : Body → List Entry
+entriesOf (platform p) = []
+entriesOf (kernel k) = []
+entriesOf (memoryMap es) = es
+entriesOf (moduleInfo m) = []
+entriesOf (commandLine t) = []
+entriesOf (framebuffer f) = []
+entriesOf (other t) = []
+
+-- the answer and what `out` has afterwards, for entries and for a context of the used length n
+abbrev pub entriesCopied : ℕ → List Entry → List ℕ → Answer × List ℕ
+entriesCopied n es out =
+    pick (leb (3 * length es) (length out)) (Done (length es), over (numbers es) out) (refused ROOM n, out)
+
+abbrev pub foundCopied : ℕ → Found → List ℕ → Answer × List ℕ
+foundCopied n none out = (refused ABSENT n, out)
+foundCopied n (found o a) out = entriesCopied n (entriesOf (a .body)) out
+
+-- of a context
+abbrev pub mapIn : Context → List ℕ → Answer × List ℕ
+mapIn c out = foundCopied (used c) (firstIn (ofType 3) c) out
+
+-- of a buffer: "all lent memory" is unchanged where reading refuses it
+unfoldable pub mapCopied : List ℕ → List ℕ → Answer × List ℕ
+mapCopied b out = ifAccepted (λ r. (r, out)) (mapIn (contextOf b) out) (usedLength 2 b)

@@ -1,0 +1,35 @@
+-- "Which module holds an address: the attribute start of the first module with address ≤ a < address + size, or 0."
+-- Assumes nothing.
+use Prim.Native.Nat.{ℕ, _+_}
+use mathlib.Core.Bool.{Bool, false, _&&_}
+use mathlib.Core.List.{List}
+use lib.Dec.{leb, ltb}
+use Rattle.ultra_format.specs.Contexts.{Body, Context}
+use Rattle.ultra_format.specs.Contexts.{Body.platform, Body.kernel, Body.memoryMap, Body.moduleInfo, Body.commandLine, Body.framebuffer, Body.other}
+use Rattle.ultra_format.specs.Decoding.{contextOf}
+use Rattle.ultra_format.specs.declared.Answer.{Answer}
+use Rattle.ultra_format.specs.declared.Answer.the-variants.{Done}
+use Rattle.ultra_reading.specs.Reading.{usedLength}
+use Rattle.ultra_questions.specs.Passing.{ifAccepted}
+use Rattle.ultra_questions.specs.Searching.{firstIn, foundStart}
+
+-- "address ≤ a < address + size": the sum is a whole number and does not wrap
+unfoldable pub covers : ℕ → ℕ → ℕ → Bool
+covers address size a = leb address a && ltb a (address + size)
+
+abbrev pub holding : ℕ → Body → Bool
+holding a (platform p) = false
+holding a (kernel k) = false
+holding a (memoryMap es) = false
+holding a (moduleInfo m) = covers (m .address) (m .size) a
+holding a (commandLine t) = false
+holding a (framebuffer f) = false
+holding a (other t) = false
+
+-- of a context
+abbrev pub moduleIn : Context → ℕ → Answer
+moduleIn c a = Done (foundStart (firstIn (holding a) c))
+
+-- of a buffer
+unfoldable pub moduleHolding : List ℕ → ℕ → Answer
+moduleHolding b a = ifAccepted (λ r. r) (moduleIn (contextOf b) a) (usedLength 2 b)

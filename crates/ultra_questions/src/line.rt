@@ -1,0 +1,30 @@
+// The command line.
+ghost use mathlib.Core.Path.{_≡_};
+ghost use Rattle.ultra_questions.specs.Parts.{PartOf};
+ghost use Rattle.ultra_questions.specs.CommandLineQuestion.{commandLinePart};
+use crate::part::Part;
+use ultra_format::Answer;
+
+// Where the text is, and how long it is up to its zero; both 0 where there is none or the buffer is refused.
+pub fn command_line_part(buf: &[u8]) -> Part
+    ensures { λ r. ⌜ r ≡ commandLinePart (now (buf .entry)) ⌝ }
+{
+    let answer = ultra_reading::used_length(buf, 2);
+    let Answer::Done(_) = answer else {
+        return crate::part::none();
+    };
+    let start = crate::search::first_of_type(buf, 5);
+    if start == 0 {
+        return crate::part::none();
+    }
+    let size = words::load_u32(buf, start as usize + 4);
+    crate::part::of_body(buf, start, size, 5)
+}
+
+// The text up to its zero, "handed back as that part of the buffer"; an empty part where there is none or the buffer is refused.
+pub fn command_line(buf: &[u8]) -> &[u8]
+    ensures { λ r. ⌜ PartOf r (buf .entry) (commandLinePart (now (buf .entry))) ⌝ }
+{
+    let part = command_line_part(buf);
+    crate::part::slice(buf, part)
+}

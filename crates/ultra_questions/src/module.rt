@@ -1,0 +1,68 @@
+// Which module holds an address.
+ghost use mathlib.Core.Path.{_≡_};
+ghost use mathlib.Core.Bool.{true};
+ghost use Prim.Native.Nat.{_+_, _≤_};
+ghost use lib.ListN.{length};
+ghost use Rattle.words.specs.Words.{u32At};
+ghost use Rattle.ultra_format.specs.Members.{sizeSuits};
+ghost use Rattle.ultra_format.specs.Decoding.{contextOf, decoded};
+ghost use Rattle.ultra_questions.specs.Passing.{Accepts};
+ghost use Rattle.ultra_questions.specs.Searching.{firstIn, foundStart};
+ghost use Rattle.ultra_questions.specs.ModuleQuestion.{covers, holding, moduleHolding};
+use ultra_format::Answer;
+
+// Whether `size` bytes from `start` on cover `address`; the sum does not wrap, since it is not taken.
+fn covers(start: u64, size: u64, address: u64) -> bool
+    ensures { λ r. ⌜ r ≡ covers start size address ⌝ }
+{
+    if address < start {
+        return false;
+    }
+    address - start < size
+}
+
+// Whether the attribute in the `size` bytes from `at` on is a module that holds `address`.
+fn holds(buf: &[u8], at: usize, size: u32, address: u64) -> bool
+    requires { ⌜ (at + size ≤ length (now buf)) × (8 ≤ size) ⌝ }
+    requires { ⌜ sizeSuits size (decoded (now buf) at size (u32At (now buf) at)) ≡ true ⌝ }
+    ensures { λ r. ⌜ r ≡ holding address (decoded (now (buf .entry)) at size (u32At (now (buf .entry)) at)) ⌝ }
+{
+    if words::load_u32(buf, at) != 4 {
+        return false;
+    }
+    covers(
+        words::load_u64(buf, at + 80),
+        words::load_u64(buf, at + 88),
+        address,
+    )
+}
+
+// Where the first module that holds `address` starts, or 0.
+fn first_holding(buf: &[u8], address: u64) -> u32
+    requires { ⌜ Accepts (now buf) ⌝ }
+    ensures { λ r. ⌜ r ≡ foundStart (firstIn (holding address) (contextOf (now (buf .entry)))) ⌝ }
+{
+    let count = words::load_u32(buf, 4);
+    let mut at: u32 = 8;
+    let mut i: u32 = 0;
+    while i < count {
+        let size = words::load_u32(buf, at as usize + 4);
+        if holds(buf, at as usize, size, address) {
+            return at;
+        }
+        at += size;
+        i += 1;
+    }
+    0
+}
+
+// The start of the first module that holds `address`, or 0 where none does.
+pub fn module_holding(buf: &[u8], address: u64) -> Answer
+    ensures { λ r. ⌜ r ≡ moduleHolding (now (buf .entry)) address ⌝ }
+{
+    let answer = ultra_reading::used_length(buf, 2);
+    let Answer::Done(_) = answer else {
+        return answer;
+    };
+    Answer::Done(first_holding(buf, address))
+}

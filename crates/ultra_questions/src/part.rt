@@ -1,0 +1,56 @@
+// Parts of the lent buffer: a map's entries, a command line's text.
+ghost use mathlib.Core.Path.{_≡_};
+ghost use mathlib.Core.Bool.{true};
+ghost use Prim.Native.Nat.{_+_, _≤_};
+ghost use lib.ListN.{length};
+ghost use Rattle.ultra_format.specs.Members.{sizeSuits};
+ghost use Rattle.ultra_format.specs.Decoding.{decoded};
+ghost use Rattle.ultra_questions.specs.Parts.{PartOf, noPart, bodyPart};
+
+// Where a part of the buffer starts, and how long it is.
+pub struct Part {
+    pub start: u32,
+    pub length: u32,
+}
+
+// No part: it is empty, at the buffer's start.
+pub fn none() -> Part
+    ensures { λ r. ⌜ r ≡ noPart ⌝ }
+{
+    Part {
+        start: 0,
+        length: 0,
+    }
+}
+
+// The part of the attribute of type `kind` in the `size` bytes from `start` on: a map's entries, a command line's text up to its zero.
+pub fn of_body(buf: &[u8], start: u32, size: u32, kind: u32) -> Part
+    requires { ⌜ (start + size ≤ length (now buf)) × (start + size ≤ 65536) ⌝ }
+    requires { ⌜ sizeSuits size (decoded (now buf) start size kind) ≡ true ⌝ }
+    ensures { λ r. ⌜ r ≡ bodyPart start (decoded (now (buf .entry)) start size kind) ⌝ }
+{
+    if kind == 3 {
+        return Part {
+            start: start + 8,
+            length: size - 8,
+        };
+    }
+    if kind == 5 {
+        let length = byte_layout::text_length(buf, start as usize + 8, size as usize - 8);
+        return Part {
+            start: start + 8,
+            length: length as u32,
+        };
+    }
+    none()
+}
+
+// The part as a slice of the lent buffer.
+pub fn slice(buf: &[u8], part: Part) -> &[u8]
+    requires { ⌜ part .start + part .length ≤ length (now buf) ⌝ }
+    ensures { λ r. ⌜ PartOf r (buf .entry) part ⌝ }
+{
+    let start = part.start as usize;
+    let length = part.length as usize;
+    &buf[start..start + length]
+}
