@@ -1,0 +1,3 @@
+pub mod Faithful
+pub mod Demand3
+pub mod Witness

@@ -1,0 +1,59 @@
+-- Demand 3 of the order, whole. "Take the rules of the format as conditions on a list of attributes, with no word on how a reader
+-- walks." The list is `Context`, the rules are `Meets`, its bytes open a buffer by `Opens` (all of crate ultra_format). What the calls
+-- answer is `readingOf` (the contract of `ultra_reading::read`), `attributeAnswer` (that of `ultra_questions::attribute`) and the bytes
+-- of its part (`ultra_questions::attribute_part`). It is proved in proofs/Demand3.antt: `demand-3`. "Whatever a buffer holds and however
+-- long it is": a buffer is any list of numbers; that they are bytes (`Bytes`) is asked where it is needed.
+-- Assumes nothing.
+use Prim.Native.Nat.{ℕ, _≤_, _<_}
+use mathlib.Core.Path.{_≡_}
+use mathlib.Core.Logic.{_↔_}
+use mathlib.Core.List.{List}
+use Rattle.byte_layout.specs.Stored.{Bytes, bytesAt}
+use Rattle.ultra_format.specs.Refusals.{COUNT}
+use Rattle.ultra_format.specs.Answers.{refused}
+use Rattle.ultra_format.specs.Contexts.{Context, count, attributeAt, bodyAt, startIn, used}
+use Rattle.ultra_reading.specs.Reading.{readingOf, readingNumber}
+use Rattle.ultra_reading.specs.declared.Version.{Version}
+use Rattle.ultra_reading.specs.declared.Reading.the-variants.{Accepted}
+use Rattle.ultra_acceptance.specs.Acceptance.{HeldBy, DiffersInSilence, versionIn}
+use Rattle.ultra_questions.specs.Parts.{partBytes}
+use Rattle.ultra_questions.specs.AttributeQuestion.{answered, unanswered, attributeAnswer}
+
+-- "some list meets the rules and its bytes open the buffer": 2 is the lower limit of the count, and the room is that of the buffer
+-- (`roomOf`): "with at most its first 65,536 bytes considered"
+abbrev pub Held : List ℕ → Context → Type 0
+Held b c = HeldBy 2 b c
+
+-- the bytes of the part that the answer at index i names, which `ultra_questions::attribute_part` hands back
+abbrev pub partAt : List ℕ → ℕ → List ℕ
+partAt b i = let p = attributeAnswer b i .part in bytesAt b (p .start) (p .length)
+
+-- "The reading is a list if version and used length are that list's, the answer at each index below its count has that attribute's
+-- type, size and members (a fixed text with zeros after it, a part by its bytes) and, as start, 8 plus the sizes before it, and from
+-- the count on 3 is given."
+pub record ReadingIs (b : List ℕ) (c : Context) : Type 0 where
+  pub whole : readingOf b ≡ Accepted (versionIn c) (used c)
+  pub each : (i : ℕ) → i < count c → attributeAnswer b i ≡ answered (startIn (c .attributes) i) (attributeAt c i)
+  pub parts : (i : ℕ) → i < count c → partAt b i ≡ partBytes (bodyAt c i)
+  pub past : (i : ℕ) → count c ≤ i → attributeAnswer b i ≡ unanswered (refused COUNT (used c))
+
+-- "The version and the used length that reading answers, with these answers from index 0 on, are the reading."
+pub record SameReading (b d : List ℕ) : Type 0 where
+  pub whole : readingOf d ≡ readingOf b
+  pub each : (i : ℕ) → attributeAnswer d i ≡ attributeAnswer b i
+  pub parts : (i : ℕ) → partAt d i ≡ partAt b i
+
+pub record Demand3 : Type 0 where
+  -- "reading accepts exactly when some list meets the rules and its bytes open the buffer"
+  pub accepts : (b : List ℕ) → Bytes b → (readingNumber (readingOf b) ≡ 0) ↔ ((c : Context) × Held b c)
+  -- "Then there is no other such list and no other used length": whatever reading answers is the used length of any list that is held.
+  -- 01: "a used length, that was made up falls to the uniqueness in demand 3"
+  pub oneList : (b : List ℕ) (c d : Context) → Held b c → Held b d → c ≡ d
+  pub oneLength : (b : List ℕ) (c : Context) (v : Version) (n : ℕ) → Held b c → readingOf b ≡ Accepted v n → n ≡ used c
+  -- "and the reading is that list with that used length"
+  pub reads : (b : List ℕ) (c : Context) → Held b c → ReadingIs b c
+  -- "Bytes that document 01 calls silent never change it: a second buffer of at least the used length, equal to the first up to there
+  -- apart from bytes silent in the first, is accepted with the same reading."
+  pub silent : (b d : List ℕ) (c : Context) → Held b c → DiffersInSilence c b d → Held d c × SameReading b d
+  -- no answer loses a member: lists that are read alike are one list, so that a reading tells every list from every other
+  pub faithful : (b d : List ℕ) (c e : Context) → Held b c → Held d e → SameReading b d → c ≡ e

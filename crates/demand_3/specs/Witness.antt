@@ -1,0 +1,134 @@
+-- Demand 3 does not speak of nothing: a buffer that holds a context with every type of attribute, what the calls answer of it, written
+-- out by hand from document 01, and a second buffer that differs from it in every silent byte of its used length and ends there.
+-- (Examples, of crate ultra_format, has the context and its bytes.) And a platform of 56 bytes is answered without late members. Proved
+-- in proofs/Witness.antt: `witnessed`.
+-- Assumes nothing.
+use Prim.Native.Nat.{ℕ, suc, _≤_, _<_}
+use mathlib.Core.Path.{_≡_}
+use mathlib.Core.List.{List, [], _∷_, _++_}
+use lib.ListN.{getD}
+use Rattle.byte_layout.specs.Stored.{Bytes}
+use Rattle.ultra_format.specs.Refusals.{COUNT}
+use Rattle.ultra_format.specs.Answers.{refused}
+use Rattle.ultra_format.specs.Contexts.{typeAt, used}
+use Rattle.ultra_format.specs.Layouts.{Silent, written}
+use Rattle.ultra_format.specs.Decoding.{platformAt}
+use Rattle.ultra_format.specs.Records.{platformRecord, blankRecords}
+use Rattle.ultra_format.specs.Examples.{zeros, everyType, everyTypeBytes}
+use Rattle.ultra_format.specs.declared.Answer.the-variants.{Done}
+use Rattle.ultra_format.specs.declared.records.Records.{Records}
+use Rattle.ultra_format.specs.declared.records.OptionalU64.the-variants as wide
+use Rattle.ultra_format.specs.declared.records.OptionalU8.the-variants as narrow
+use Rattle.ultra_reading.specs.Reading.{readingOf}
+use Rattle.ultra_reading.specs.declared.Reading.the-variants.{Accepted}
+use Rattle.ultra_acceptance.specs.Acceptance.{DiffersInSilence}
+use Rattle.ultra_questions.specs.declared.part.Part.{Part}
+use Rattle.ultra_questions.specs.declared.attributes.AttributeAnswer.{AttributeAnswer}
+use Rattle.ultra_questions.specs.Parts.{part, noPart}
+use Rattle.ultra_questions.specs.AttributeQuestion.{unanswered, attributeAnswer}
+use Rattle.demand_3.specs.Demand3.{Held, partAt, SameReading}
+
+-- ---- the records of the context with every type, each beside blank ones
+abbrev pub everyPlatformRecord : Records
+everyPlatformRecord =
+    record {
+      platform =
+          record {
+            kind = 67305985;
+            «loader_major» = 258;
+            «loader_minor» = 772;
+            name = 98 ∷ zeros 31;
+            rsdp = 578437695752307201;
+            «higher_half_base» = wide.Present 2314601843866147353;
+            depth = narrow.Present 5;
+            dtb = wide.Present 1157159078456920585;
+            smbios = wide.Present 1735880461161533969;
+          };
+      kernel = blankRecords .kernel;
+      «module» = blankRecords .«module»;
+      framebuffer = blankRecords .framebuffer;
+    }
+
+abbrev pub everyKernelRecord : Records
+everyKernelRecord =
+    record {
+      platform = blankRecords .platform;
+      kernel =
+          record {
+            «physical_base» = 4294971392;
+            «virtual_base» = 18446744071562072064;
+            size = 69632;
+            «partition_type» = 3;
+            «disk_guid» = 1 ∷ 2 ∷ 3 ∷ 4 ∷ 5 ∷ 6 ∷ 7 ∷ 8 ∷ 9 ∷ 10 ∷ 11 ∷ 12 ∷ 13 ∷ 14 ∷ 15 ∷ 16 ∷ [];
+            «partition_guid» = 255 ∷ 254 ∷ 253 ∷ 252 ∷ 251 ∷ 250 ∷ 249 ∷ 248 ∷ 247 ∷ 246 ∷ 245 ∷ 244 ∷ 243 ∷ 242 ∷ 241 ∷ 240 ∷ [];
+            «disk_index» = 513;
+            «partition_index» = 1027;
+            path = 47 ∷ 107 ∷ 195 ∷ 169 ∷ zeros 252;
+          };
+      «module» = blankRecords .«module»;
+      framebuffer = blankRecords .framebuffer;
+    }
+
+abbrev pub everyModuleRecord : Records
+everyModuleRecord =
+    record {
+      platform = blankRecords .platform;
+      kernel = blankRecords .kernel;
+      «module» = record { kind = 2; name = 109 ∷ zeros 63; address = 8589934592; size = 4097 };
+      framebuffer = blankRecords .framebuffer;
+    }
+
+abbrev pub everyFramebufferRecord : Records
+everyFramebufferRecord =
+    record {
+      platform = blankRecords .platform;
+      kernel = blankRecords .kernel;
+      «module» = blankRecords .«module»;
+      framebuffer = record { width = 1024; height = 768; pitch = 4096; bpp = 32; format = 3; address = 18446744073706405888 };
+    }
+
+-- ---- the answers: start, type, size, records, part
+abbrev pub theAnswer : ℕ → ℕ → ℕ → Records → Part → AttributeAnswer
+theAnswer o t s rs p = record { answer = Done o; header = record { kind = t; start = o; size = s }; records = rs; part = p }
+
+abbrev pub everyAnswers : List AttributeAnswer
+everyAnswers =
+    theAnswer 8 1 96 everyPlatformRecord noPart
+    ∷ theAnswer 104 2 344 everyKernelRecord noPart
+    ∷ theAnswer 448 3 56 blankRecords (part 456 48)
+    ∷ theAnswer 504 4 104 everyModuleRecord noPart
+    ∷ theAnswer 608 5 24 blankRecords (part 616 8)
+    ∷ theAnswer 632 6 40 everyFramebufferRecord noPart
+    ∷ theAnswer 672 7 16 blankRecords noPart
+    ∷ []
+
+-- the bytes of the map's part and of the command line's
+abbrev pub everyEntries : List ℕ
+everyEntries =
+    zeros 8
+    ++ (0 ∷ 240 ∷ 255 ∷ 255 ∷ 255 ∷ 255 ∷ 255 ∷ 255 ∷ [])
+    ++ (1 ∷ zeros 7)
+    ++ (0 ∷ 240 ∷ 255 ∷ 255 ∷ 255 ∷ 255 ∷ 255 ∷ 255 ∷ [])
+    ++ (0 ∷ 16 ∷ zeros 6)
+    ++ (0 ∷ 0 ∷ 0 ∷ 0 ∷ 1 ∷ 0 ∷ 0 ∷ 0 ∷ [])
+
+abbrev pub everyLine : List ℕ
+everyLine = 110 ∷ 111 ∷ 97 ∷ 112 ∷ 105 ∷ 99 ∷ 61 ∷ 49 ∷ []
+
+pub record Witnessed : Type 0 where
+  pub bytes : Bytes everyTypeBytes
+  pub holds : Held everyTypeBytes everyType
+  -- types 1 to 7, in this order
+  pub types : (i : ℕ) → i < 7 → typeAt everyType i ≡ suc i
+  pub whole : readingOf everyTypeBytes ≡ Accepted (record { major = 2; minor = 7 }) 688
+  pub each : (i : ℕ) → i < 7 → attributeAnswer everyTypeBytes i ≡ getD everyAnswers i (unanswered (refused COUNT 0))
+  pub past : (i : ℕ) → 7 ≤ i → attributeAnswer everyTypeBytes i ≡ unanswered (refused COUNT 688)
+  pub entries : partAt everyTypeBytes 2 ≡ everyEntries
+  pub line : partAt everyTypeBytes 4 ≡ everyLine
+  -- its silent bytes are 165; a writer writes zeros there, and the readings are the same
+  pub differs : DiffersInSilence everyType everyTypeBytes (written everyType)
+  pub noisy : (i : ℕ) → i < used everyType → Silent everyType i → (getD everyTypeBytes i 0 ≡ 165) × (getD (written everyType) i 0 ≡ 0)
+  pub same : SameReading everyTypeBytes (written everyType)
+  -- "Reading dtb from a 56-byte platform attribute, out of the kernel attribute behind it." looks right and is not
+  pub short : (b : List ℕ) (o : ℕ) → let p = platformRecord (platformAt b o 56) in
+      (p .«higher_half_base» ≡ wide.Absent) × (p .depth ≡ narrow.Absent) × (p .dtb ≡ wide.Absent) × (p .smbios ≡ wide.Absent)
