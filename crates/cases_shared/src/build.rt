@@ -23,6 +23,11 @@ pub fn put_byte(buf: &mut [u8; 1024], at: usize, byte: u8) {
     }
 }
 
+// Eight bytes as they are, as a text or half a GUID.
+pub fn put_eight(buf: &mut [u8; 1024], at: usize, bytes: &[u8; 8]) {
+    put_u64(buf, at, words::load_u64(bytes, 0));
+}
+
 // Version 1.0 and a count.
 pub fn head(buf: &mut [u8; 1024], count: u32) {
     put_byte(buf, 0, 1);

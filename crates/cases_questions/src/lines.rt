@@ -1,0 +1,84 @@
+// The command line.
+use cases_shared::build;
+use cases_shared::show;
+
+fn line(label: &[u8], buf: &[u8; 1024]) {
+    let part = ultra_questions::command_line_part(buf);
+    show::words(label);
+    show::number(b": part at ", part.start as u64);
+    show::number(b" length ", part.length as u64);
+    let text = ultra_questions::command_line(buf);
+    show::number(b", bytes handed back ", text.len() as u64);
+    show::words(b" \"");
+    show::words(text);
+    show::words(b"\"\n");
+}
+
+// A context with an empty command line of 32 bytes at 432; behind it an attribute of type 0, which a count of 4 takes in.
+fn context(buf: &mut [u8; 1024]) {
+    build::head(buf, 3);
+    build::platform_and_kernel(buf, 88);
+    build::header(buf, 432, 5, 32);
+    build::header(buf, 464, 0, 8);
+}
+
+// The same text in a context, past the count and in a refused buffer.
+fn counts() {
+    let mut space = [0u8; 1024];
+    context(&mut space);
+    build::put_eight(&mut space, 440, b"quiet sp");
+    build::put_eight(&mut space, 448, b"lash\0\0\0\0");
+    line(b"text", &space);
+    build::head(&mut space, 2);
+    line(b"line past the count", &space);
+    build::head(&mut space, 4);
+    line(b"fourth of type 0", &space);
+}
+
+// Closed by the field's last byte, and by no byte of the field.
+fn full() {
+    let mut space = [0u8; 1024];
+    context(&mut space);
+    build::put_eight(&mut space, 440, b"quiet sp");
+    build::put_eight(&mut space, 448, b"lash, an");
+    build::put_eight(&mut space, 456, b"d more.\0");
+    line(b"text up to its last byte", &space);
+    build::put_byte(&mut space, 463, b'.');
+    line(b"text that is not closed", &space);
+}
+
+fn junk(buf: &mut [u8; 1024], at: usize) {
+    build::put_eight(buf, at, b"\xa5\xa5\xa5\xa5\xa5\xa5\xa5\xa5");
+}
+
+fn junk_behind() {
+    let mut space = [0u8; 1024];
+    context(&mut space);
+    line(b"empty text", &space);
+    junk(&mut space, 448);
+    junk(&mut space, 456);
+    build::put_eight(&mut space, 440, b"\0unheard");
+    line(b"empty text, junk behind", &space);
+    build::put_eight(&mut space, 440, b"ro\0rw\0\xa5\xa5");
+    line(b"text, junk behind", &space);
+}
+
+// A command line behind two attributes of type 7 and a map of no ranges.
+fn behind_others() {
+    let mut space = [0u8; 1024];
+    build::head(&mut space, 6);
+    build::platform_and_kernel(&mut space, 88);
+    build::header(&mut space, 432, 7, 16);
+    build::header(&mut space, 448, 7, 8);
+    build::header(&mut space, 456, 3, 8);
+    build::header(&mut space, 464, 5, 16);
+    build::put_eight(&mut space, 472, b"1234567\0");
+    line(b"line behind others", &space);
+}
+
+pub fn all() {
+    counts();
+    full();
+    junk_behind();
+    behind_others();
+}
