@@ -6,12 +6,13 @@ use mathlib.Core.Bool.{Bool, true, _&&_}
 use mathlib.Core.List.{List}
 use lib.ListN.{length}
 use lib.Dec.{leb}
-use borrow.Author.Tests.{leb-true, eqb-true}
+use borrow.Author.Tests.{leb-true}
 use Rattle.ultra_format.specs.Contexts.{Body}
-use Rattle.ultra_format.specs.Contexts.{Body.platform, Body.memoryMap}
+use Rattle.ultra_format.specs.Contexts.{Body.platform}
 use Rattle.ultra_format.specs.Members.{sizeSuits}
 use Rattle.ultra_format.specs.Decoding.{decoded, platformAt, entriesAt}
 use Rattle.ultra_format.proofs.Chains.{both-hold}
+use Rattle.ultra_format.proofs.Bodies as bodies
 
 module _ (b : List ℕ) (o s : ℕ) where
   -- `sizeSuits` asks at least n bytes of type k
@@ -46,6 +47,4 @@ module _ (b : List ℕ) (o s : ℕ) where
   -- a map has its header and its entries
   pub map-size : (t : ℕ) → t ≡ 3 → sizeSuits s (decoded b o s t) ≡ true → s ≡ 8 + 24 * length (entriesAt b (o + 8) ((s - 8) / 24))
   unfolding decoded sizeSuits
-  map-size t e h =
-      let k : sizeSuits s (memoryMap (entriesAt b (o + 8) ((s - 8) / 24))) ≡ true = rw e at h in
-      eqb-true s (8 + 24 * length (entriesAt b (o + 8) ((s - 8) / 24))) k
+  map-size t e h = bodies.map-size s (entriesAt b (o + 8) ((s - 8) / 24)) (rw e at h)
