@@ -1,11 +1,11 @@
 -- Cells that lie in a buffer: by index, as the definitions say it, and along the list, as proofs by induction want it.
 -- Assumes nothing.
 use Prim.Native.Nat.{ℕ, zero, suc, _+_, _≤_, _<_}
-use mathlib.Core.Path.{_≡_, refl, sym, ap, _∙_}
+use mathlib.Core.Path.{_≡_, refl, sym, ap, ap₂, _∙_}
 use mathlib.Core.List.{List, [], _∷_, _++_}
 use native.Mathlib.Omega.{arith}
 use native.Mathlib.Nat.{not-suc-le-zero, le-of-suc-le-suc, add-zero, zero-add}
-use lib.ListN.{length, getD}
+use lib.ListN.{length, getD, take}
 use Rattle.byte_layout.specs.Fields.{Cell, filled, Opens, SilentAt}
 use Rattle.byte_layout.specs.Fields.{Cell.byte, Cell.silent}
 
@@ -64,6 +64,19 @@ filled-byte (silent ∷ cs) (suc i) n e = filled-byte cs i n e
 
 pub filled-opens : (cs : List Cell) → Opens (filled cs) cs
 filled-opens cs = (omega (arith, length-filled cs), λ i n l e. filled-byte cs i n e)
+
+opens-rest : (c : Cell) (cs : List Cell) (x : ℕ) (b : List ℕ) → Opens (x ∷ b) (c ∷ cs) → Opens b cs
+opens-rest c cs x b o = (omega (arith, o .0), λ i n l e. o .1 (suc i) n (omega arith) e)
+
+-- a buffer that cells open and whose silent bytes are zero begins with what a writer writes of them
+pub filled-only : (cs : List Cell) (b : List ℕ) → Opens b cs → ((i : ℕ) → i < length cs → SilentAt cs i → getD b i 0 ≡ 0) → take (length cs) b ≡ filled cs
+unfolding filled
+filled-only [] b o z = refl
+filled-only (c ∷ cs) [] o z = absurd (omega (arith, o .0))
+filled-only (byte n ∷ cs) (x ∷ b) o z =
+    ap₂ (λ (y : ℕ) (l : List ℕ). y ∷ l) (o .1 0 n (omega arith) refl) (filled-only cs b (opens-rest (byte n) cs x b o) (λ i l e. z (suc i) (omega arith) e))
+filled-only (silent ∷ cs) (x ∷ b) o z =
+    ap₂ (λ (y : ℕ) (l : List ℕ). y ∷ l) (z 0 (omega arith) refl) (filled-only cs b (opens-rest silent cs x b o) (λ i l e. z (suc i) (omega arith) e))
 
 -- two runs of cells, one behind the other
 module _ (b : List ℕ) where

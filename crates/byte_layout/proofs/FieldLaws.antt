@@ -32,7 +32,7 @@ length-silence : (k : ℕ) → length (silence k) ≡ k
 length-silence zero = refl
 length-silence (suc k) = ap suc (length-silence k)
 
-length-padded : (k : ℕ) (l : List ℕ) → length (padded k l) ≡ k
+pub length-padded : (k : ℕ) (l : List ℕ) → length (padded k l) ≡ k
 length-padded zero l = refl
 length-padded (suc k) [] = ap suc (length-padded k [])
 length-padded (suc k) (x ∷ l) = ap suc (length-padded k l)

@@ -1,7 +1,10 @@
 // Texts and raw bytes in fields of a byte layout. The layouts themselves are definitions: specs/Fields.antt and specs/Stored.antt.
 ghost use mathlib.Core.Path.{_≡_};
+ghost use mathlib.Core.List.{[]};
 ghost use Prim.Native.Nat.{_+_, _≤_};
 ghost use lib.ListN.{length};
+ghost use Rattle.words.specs.Words.{replaced};
+ghost use Rattle.byte_layout.specs.Fields.{padded};
 ghost use Rattle.byte_layout.specs.Stored.{bytesAt, textAt, over};
 
 // How long the text in the `width` bytes from `at` on is: `width` where no zero closes it.
@@ -38,4 +41,28 @@ pub fn copy_text(bytes: &[u8], at: usize, out: &mut [u8])
 {
     let n = text_length(bytes, at, out.len());
     copy(bytes, at, n, out);
+}
+
+// Stores the bytes from `at` on; what is before and behind them stays.
+pub fn store(bytes: &[u8], out: &mut [u8], at: usize)
+    requires { ⌜ at + length (now bytes) ≤ length (now out) ⌝ }
+    ensures { λ _. ⌜ now (out .exit) ≡ replaced (now (out .entry)) at (length (now (bytes .entry))) (now (bytes .entry)) ⌝ }
+{
+    let mut i = 0;
+    while i < bytes.len() {
+        out[at + i] = bytes[i];
+        i += 1;
+    }
+}
+
+// Stores `n` zeros from `at` on.
+pub fn clear(out: &mut [u8], at: usize, n: usize)
+    requires { ⌜ at + n ≤ length (now out) ⌝ }
+    ensures { λ _. ⌜ now (out .exit) ≡ replaced (now (out .entry)) at n (padded n []) ⌝ }
+{
+    let mut i = 0;
+    while i < n {
+        out[at + i] = 0;
+        i += 1;
+    }
 }
