@@ -1,5 +1,5 @@
--- The rules can be met, those of every body among them: two contexts, that of document 01's listing and one with every type, meet them
--- and open their bytes, and the first is plain. And a short platform has no late member.
+-- The rules can be met, those of every body among them: three contexts, that of document 01's listing, one with every type and one with
+-- the types that are added, meet them and open their bytes, and the first and the last are plain. And a short platform has no late member.
 -- Assumes nothing.
 use Prim.Native.Nat.{ℕ, zero, suc, _%_, _≤_, _<_}
 use mathlib.Core.Path.{_≡_, refl, sym, ap, _∙_, subst}
@@ -21,7 +21,7 @@ use Rattle.ultra_format.specs.Members.{every, sizeSuits, values, kernelV
 use Rattle.ultra_format.specs.Rules.{TypeSuits, AttributeMeets, Meets}
 use Rattle.ultra_format.specs.Plain.{writtenSize, Plain}
 use Rattle.ultra_format.specs.Decoding.{contextOf, attributesFrom, start, decoded, entriesAt}
-use Rattle.ultra_format.specs.Examples.{ShortPlatform, listed, listedBytes, everyType, junk, everyTypeBytes}
+use Rattle.ultra_format.specs.Examples.{ShortPlatform, listed, listedBytes, everyType, junk, everyTypeBytes, sixTypes, sixTypesBytes}
 use Rattle.ultra_format.proofs.Chains.{both-hold}
 use Rattle.ultra_format.proofs.Attributes.{width-attribute, at, Sized, Says, says-fits, says-opens}
 use Rattle.ultra_format.proofs.Decoded.{says-decoded}
@@ -186,16 +186,63 @@ silent-zero (byte n ∷ cs) (suc i) e = silent-zero cs i e
 silent-zero (silent ∷ cs) zero e = refl
 silent-zero (silent ∷ cs) (suc i) e = silent-zero cs i e
 
-pub listed-plain : Plain listedBytes listed
-unfolding writtenSize every
-listed-plain =
+-- what a writer writes is plain, if version, sizes and types are
+writtenAs : Attribute → Bool
+writtenAs a = eqb (a .size) (writtenSize (a .body)) && ltb (typeOf (a .body)) 7
+
+written-plain : (b : List ℕ) (c : Context) → written c ≡ b → c .major ≡ 1 → c .minor ≡ 0 → every writtenAs (c .attributes) ≡ true → Plain b c
+unfolding writtenAs
+written-plain b c w v m e =
+    let t : (i : ℕ) → i < count c → (sizeAt c i ≡ writtenSize (bodyAt c i)) × (typeAt c i < 7) =
+    λ i h. let p = both-hold (eqb (sizeAt c i) (writtenSize (bodyAt c i))) (ltb (typeAt c i) 7) (every-at writtenAs _ (c .attributes) e i h) in
+    (eqb-true _ _ (p .0), ltb-true _ 7 (p .1)) in
     record {
-      major = refl;
-      minor = refl;
-      sizes = λ i h. eqb-true (sizeAt listed i) (writtenSize (bodyAt listed i)) (every-at (λ (a : Attribute). eqb (a .size) (writtenSize (a .body))) _ (listed .attributes) refl i h);
-      zeros = λ i h e. ap (λ (l : List ℕ). getD l i 0) (sym listed-written) ∙ silent-zero (cells (layout listed)) i e;
-      types = λ i h. ltb-true (typeAt listed i) 7 (every-at (λ (a : Attribute). ltb (typeOf (a .body)) 7) _ (listed .attributes) refl i h);
+      major = v;
+      minor = m;
+      sizes = λ i h. t i h .0;
+      zeros = λ i h q. ap (λ (l : List ℕ). getD l i 0) (sym w) ∙ silent-zero (cells (layout c)) i q;
+      types = λ i h. t i h .1;
     }
+
+pub listed-plain : Plain listedBytes listed
+unfolding writtenSize every writtenAs
+listed-plain = written-plain listedBytes listed listed-written refl refl refl
+
+-- ---- the context with the six types that are added
+pub six-types-written : written sixTypes ≡ sixTypesBytes
+unfolding cells filled attributesFields entriesFields
+six-types-written = refl
+
+six-types-decoded : contextOf sixTypesBytes ≡ sixTypes
+unfolding contextOf attributesFrom start decoded entriesAt numberAt bytesAt textAt
+six-types-decoded = refl
+
+six-types-example : Example sixTypesBytes sixTypes
+unfolding every isByte total rises Suited tests sizeSuits values kernelValues moduleValues bppSuits framebufferValues texts asciiText pathText ranges ordered entriesOrdered
+six-types-example =
+    record {
+      bytes = refl;
+      decoded = six-types-decoded;
+      major = omega arith;
+      enough = omega arith;
+      most = omega arith;
+      within = omega arith;
+      first = refl;
+      second = refl;
+      risen = refl;
+      suited = (tt, (tt, (tt, (tt, (tt, (tt, tt))))));
+      tested = refl;
+    }
+
+pub six-types-meets : Meets 2 (roomOf sixTypesBytes) sixTypes
+six-types-meets = example-meets sixTypesBytes sixTypes six-types-example
+
+pub six-types-opens : Opens sixTypesBytes sixTypes
+six-types-opens = example-opens sixTypesBytes sixTypes six-types-example
+
+pub six-types-plain : Plain sixTypesBytes sixTypes
+unfolding writtenSize every writtenAs
+six-types-plain = written-plain sixTypesBytes sixTypes six-types-written refl refl refl
 
 -- ---- the context with every type: its bytes are the layout's, with 165 wherever that is silent
 unfoldable pub noisy : List Cell → List ℕ

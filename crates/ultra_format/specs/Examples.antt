@@ -1,6 +1,7 @@
--- Two contexts, each as a list and as bytes that were written out by hand from document 01's table: that of 01's listing, in 480
--- bytes, whose GUIDs, which the listing does not show, are zero; and one with every type of attribute, in whose bytes no silent byte
--- is zero. proofs/Witness.antt shows that both meet the rules and open their bytes, and that the first is plain.
+-- Three contexts, each as a list and as bytes that were written out by hand from document 01's table: that of 01's listing, in 480
+-- bytes, whose GUIDs, which the listing does not show, are zero; one with every type of attribute, in whose bytes no silent byte is
+-- zero; and one with the six types that are added, as they are written, in 640 bytes. proofs/Witness.antt shows that all meet the rules
+-- and open their bytes, and that the first and the last are what a writer writes, and plain.
 -- Assumes nothing.
 use Prim.Native.Nat.{ℕ}
 use mathlib.Core.Path.{_≡_}
@@ -212,3 +213,65 @@ everyTypeBytes =
     ++ junk 8
     -- past the used length
     ++ junk 5
+
+-- ---- the six types that are added, each as it is written: the members of the context above, version 1.0, and no silent byte but zero
+abbrev pub sixTypes : Context
+sixTypes =
+    record {
+      major = 1;
+      minor = 0;
+      attributes =
+          record { size = 88; body = platform everyPlatform }
+          ∷ record { size = 336; body = kernel everyKernel }
+          ∷ record { size = 56; body = memoryMap everyMap }
+          ∷ record { size = 96; body = moduleInfo (record { moduleType = 2; name = 109 ∷ []; address = 8589934592; size = 4097 }) }
+          ∷ record { size = 24; body = commandLine (110 ∷ 111 ∷ 97 ∷ 112 ∷ 105 ∷ 99 ∷ 61 ∷ 49 ∷ []) }
+          ∷ record { size = 32; body = framebuffer (record { width = 1024; height = 768; pitch = 4096; bpp = 32; format = 3; address = 18446744073706405888 }) }
+          ∷ [];
+    }
+
+-- 640 bytes
+abbrev pub sixTypesBytes : List ℕ
+sixTypesBytes =
+    (1 ∷ 0 ∷ 0 ∷ 0 ∷ 6 ∷ 0 ∷ 0 ∷ 0 ∷ [])
+    -- platform
+    ++ (1 ∷ 0 ∷ 0 ∷ 0 ∷ 88 ∷ 0 ∷ 0 ∷ 0 ∷ [])
+    ++ (1 ∷ 2 ∷ 3 ∷ 4 ∷ 2 ∷ 1 ∷ 4 ∷ 3 ∷ [])
+    ++ (98 ∷ zeros 31)
+    ++ (1 ∷ 2 ∷ 3 ∷ 4 ∷ 5 ∷ 6 ∷ 7 ∷ 8 ∷ [])
+    ++ (25 ∷ 26 ∷ 27 ∷ 28 ∷ 29 ∷ 30 ∷ 31 ∷ 32 ∷ [])
+    ++ (5 ∷ zeros 7)
+    ++ (9 ∷ 10 ∷ 11 ∷ 12 ∷ 13 ∷ 14 ∷ 15 ∷ 16 ∷ [])
+    ++ (17 ∷ 18 ∷ 19 ∷ 20 ∷ 21 ∷ 22 ∷ 23 ∷ 24 ∷ [])
+    -- kernel
+    ++ (2 ∷ 0 ∷ 0 ∷ 0 ∷ 80 ∷ 1 ∷ 0 ∷ 0 ∷ [])
+    ++ (0 ∷ 16 ∷ 0 ∷ 0 ∷ 1 ∷ 0 ∷ 0 ∷ 0 ∷ [])
+    ++ (0 ∷ 16 ∷ 0 ∷ 128 ∷ 255 ∷ 255 ∷ 255 ∷ 255 ∷ [])
+    ++ (0 ∷ 16 ∷ 1 ∷ 0 ∷ 0 ∷ 0 ∷ 0 ∷ 0 ∷ [])
+    ++ (3 ∷ zeros 7)
+    ++ (1 ∷ 2 ∷ 3 ∷ 4 ∷ 5 ∷ 6 ∷ 7 ∷ 8 ∷ 9 ∷ 10 ∷ 11 ∷ 12 ∷ 13 ∷ 14 ∷ 15 ∷ 16 ∷ [])
+    ++ (255 ∷ 254 ∷ 253 ∷ 252 ∷ 251 ∷ 250 ∷ 249 ∷ 248 ∷ 247 ∷ 246 ∷ 245 ∷ 244 ∷ 243 ∷ 242 ∷ 241 ∷ 240 ∷ [])
+    ++ (1 ∷ 2 ∷ 0 ∷ 0 ∷ 3 ∷ 4 ∷ 0 ∷ 0 ∷ [])
+    ++ (47 ∷ 107 ∷ 195 ∷ 169 ∷ zeros 252)
+    -- map
+    ++ (3 ∷ 0 ∷ 0 ∷ 0 ∷ 56 ∷ 0 ∷ 0 ∷ 0 ∷ [])
+    ++ zeros 8
+    ++ (0 ∷ 240 ∷ 255 ∷ 255 ∷ 255 ∷ 255 ∷ 255 ∷ 255 ∷ [])
+    ++ (1 ∷ zeros 7)
+    ++ (0 ∷ 240 ∷ 255 ∷ 255 ∷ 255 ∷ 255 ∷ 255 ∷ 255 ∷ [])
+    ++ (0 ∷ 16 ∷ zeros 6)
+    ++ (0 ∷ 0 ∷ 0 ∷ 0 ∷ 1 ∷ 0 ∷ 0 ∷ 0 ∷ [])
+    -- module
+    ++ (4 ∷ 0 ∷ 0 ∷ 0 ∷ 96 ∷ 0 ∷ 0 ∷ 0 ∷ [])
+    ++ (0 ∷ 0 ∷ 0 ∷ 0 ∷ 2 ∷ 0 ∷ 0 ∷ 0 ∷ [])
+    ++ (109 ∷ zeros 63)
+    ++ (0 ∷ 0 ∷ 0 ∷ 0 ∷ 2 ∷ 0 ∷ 0 ∷ 0 ∷ [])
+    ++ (1 ∷ 16 ∷ zeros 6)
+    -- command line
+    ++ (5 ∷ 0 ∷ 0 ∷ 0 ∷ 24 ∷ 0 ∷ 0 ∷ 0 ∷ [])
+    ++ (110 ∷ 111 ∷ 97 ∷ 112 ∷ 105 ∷ 99 ∷ 61 ∷ 49 ∷ zeros 8)
+    -- framebuffer
+    ++ (6 ∷ 0 ∷ 0 ∷ 0 ∷ 32 ∷ 0 ∷ 0 ∷ 0 ∷ [])
+    ++ (0 ∷ 4 ∷ 0 ∷ 0 ∷ 0 ∷ 3 ∷ 0 ∷ 0 ∷ [])
+    ++ (0 ∷ 16 ∷ 0 ∷ 0 ∷ 32 ∷ 0 ∷ 3 ∷ 0 ∷ [])
+    ++ (0 ∷ 0 ∷ 208 ∷ 255 ∷ 255 ∷ 255 ∷ 255 ∷ 255 ∷ [])

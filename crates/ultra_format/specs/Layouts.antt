@@ -70,6 +70,10 @@ Opens b c = fields.Opens b (cells (layout c))
 abbrev pub Silent : Context → ℕ → Type 0
 Silent c i = SilentAt (cells (layout c)) i
 
--- what a writer of the context writes: "silent bytes of the new attribute are zero"
+-- what a writer writes of one attribute: "silent bytes of the new attribute are zero"
+abbrev pub attributeWritten : Attribute → List ℕ
+attributeWritten a = filled (cells (attributeFields a))
+
+-- and of a whole context
 abbrev pub written : Context → List ℕ
 written c = filled (cells (layout c))

@@ -9,3 +9,4 @@ pub mod Places
 pub mod Decoding
 pub mod Records
 pub mod Examples
+pub mod Additions

@@ -121,12 +121,16 @@ ordered (commandLine t) = true
 ordered (framebuffer f) = true
 ordered (other t) = true
 
--- ---- the first of 12 to 16 that a body of an attribute of `s` bytes breaks, or 0
-unfoldable pub bodyFault : ℕ → Body → ℕ
-bodyFault s x =
-    unless (sizeSuits s x) FORM
-    (unless (values x) VALUE
-    (unless (texts s x) TEXT
-    (unless (ranges x) RANGE
-    (unless (ordered x) ORDER
+-- ---- the first of 12 to 16 that fails, or 0: the size, the values, the texts, the ranges, the order
+abbrev pub memberFault : Bool → Bool → Bool → Bool → Bool → ℕ
+memberFault form value text range order =
+    unless form FORM
+    (unless value VALUE
+    (unless text TEXT
+    (unless range RANGE
+    (unless order ORDER
     0))))
+
+-- of a body of an attribute of `s` bytes
+unfoldable pub bodyFault : ℕ → Body → ℕ
+bodyFault s x = memberFault (sizeSuits s x) (values x) (texts s x) (ranges x) (ordered x)
