@@ -139,13 +139,13 @@ complete fewest b c m o =
     rw q (accepting fewest b (used (contextOf b)) (decoded-accepted fewest b (subst (Meets fewest (roomOf b)) q m)))
 
 -- ---- silent bytes
--- the rules in another room
-rehoused : {fewest room other : ℕ} {c : Context} → Meets fewest room c → used c ≤ other → Meets fewest other c
-rehoused m h =
+-- the rules in another room and with another lower limit of the count
+pub rehoused : {fewest least room other : ℕ} {c : Context} → Meets fewest room c → least ≤ count c → used c ≤ other → Meets least other c
+rehoused m l h =
     record {
       fits = m .fits;
       major = m .major;
-      enough = m .enough;
+      enough = l;
       most = m .most;
       within = h;
       typed = m .typed;
@@ -170,7 +170,7 @@ silent-bytes fewest b d c g s =
     let m = g .0 in
     let n = length-cells (layout c) ∙ width-layout c (sized m) in
     let p : Opens d c = opens-over b d (cells (layout c)) (g .1) (omega arith) (λ i k e. s .1 i (omega arith) e) in
-    let w : Meets fewest (roomOf d) c = rehoused m (omega (arith, m .within)) in
+    let w : Meets fewest (roomOf d) c = rehoused m (m .enough) (omega (arith, m .within)) in
     ((w, p), complete fewest d c w p ∙ sym (complete fewest b c m (g .1)))
 
 -- ---- reading

@@ -5,7 +5,7 @@ use Prim.Native.Nat.{ℕ, zero, suc, _+_, _-_, _%_, _≤_, _<_}
 use mathlib.Core.Path.{_≡_, refl, sym, ap, _∙_}
 use mathlib.Core.Bool.{Bool, true, false, not, _&&_, _||_, or-true}
 use mathlib.Core.List.{List}
-use mathlib.Core.Logic.{_⊎_, _⊎_.inl, _⊎_.inr, ⊎-elim}
+use mathlib.Core.Logic.{_↔_, _⊎_, _⊎_.inl, _⊎_.inr, ⊎-elim}
 use native.Mathlib.Omega.{arith}
 use native.Mathlib.Nat.{not-suc-le-zero}
 use lib.ListN.{length, getD}
@@ -58,23 +58,72 @@ module _ (fewest : ℕ) (b : List ℕ) where
   pub head-settled : Settled (HeadBreaks fewest b) (headFault fewest b)
   head-settled = settled in-head head-chain
 
--- ---- 9, by the index
-is-place : (b : List ℕ) (i : ℕ) → placed i (storedType b i) ≡ false → Breaks b i PLACE
+-- ---- 9 to 11, of a type t behind the first i attributes
+abbrev pub Misplaced : ℕ → ℕ → Type 0
+Misplaced i t = ((i ≡ 0) × (t ≡ 1 → ⊥)) ⊎ ((i ≡ 1) × (t ≡ 2 → ⊥)) ⊎ ((1 < i) × ((t ≡ 1) ⊎ (t ≡ 2)))
+
+is-misplaced : (i t : ℕ) → placed i t ≡ false → Misplaced i t
 unfolding placed
-is-place b zero e = first refl (eqb-false _ _ e)
-is-place b (suc zero) e = second refl (eqb-false _ _ e)
-is-place b (suc (suc i)) e = later (omega arith) (go (eqb (storedType b (suc (suc i))) 1) (eqb (storedType b (suc (suc i))) 2) refl refl (not-false _ e))
+is-misplaced zero t e = inl (refl, eqb-false _ _ e)
+is-misplaced (suc zero) t e = inr (inl (refl, eqb-false _ _ e))
+is-misplaced (suc (suc i)) t e = inr (inr (omega arith, go (eqb t 1) (eqb t 2) refl refl (not-false _ e)))
   where
-    go : (x y : Bool) → eqb (storedType b (suc (suc i))) 1 ≡ x → eqb (storedType b (suc (suc i))) 2 ≡ y → (x || y) ≡ true
-        → (storedType b (suc (suc i)) ≡ 1) ⊎ (storedType b (suc (suc i)) ≡ 2)
+    go : (x y : Bool) → eqb t 1 ≡ x → eqb t 2 ≡ y → (x || y) ≡ true → (t ≡ 1) ⊎ (t ≡ 2)
     go true y p q h = inl (eqb-true _ _ p)
     go false y p q h = inr (eqb-true _ _ (q ∙ h))
 
--- ---- 11, the type just before
+on-misplaced : (i t : ℕ) → Misplaced i t → placed i t ≡ false
+on-misplaced i t =
+    ⊎-elim (λ x. sym (placed-first i t (x .0)) ∙ ne-eqb t 1 (x .1))
+    (⊎-elim (λ x. sym (placed-second i t (x .0)) ∙ ne-eqb t 2 (x .1))
+    (λ x. sym (placed-later i t (λ e. omega (arith, x .0)) (λ e. omega (arith, x .0))) ∙ ⊎-elim (λ e. simp (eq-eqb t 1 e)) (λ e. simp (eq-eqb t 2 e, or-true)) (x .1)))
+
+-- the type just before
 nearest-before : (b : List ℕ) (i : ℕ) → 0 < i → nearest (typesBefore b i) ≡ storedType b (i - 1)
 unfolding typesBefore
 nearest-before b zero l = absurd (not-suc-le-zero l)
 nearest-before b (suc i) l = let q : suc i - 1 ≡ i = omega arith in rw q
+
+module _ (b : List ℕ) (i t : ℕ) where
+  abbrev pub Earlier : Type 0
+  Earlier = (j : ℕ) × (j < i) × (storedType b j ≡ t)
+
+  abbrev pub Repeated : Type 0
+  Repeated = (single t ≡ true) × Earlier
+
+  abbrev pub Parted : Type 0
+  Parted = (repeatable t ≡ true) × Earlier × (storedType b (i - 1) ≡ t → ⊥)
+
+  abbrev again : Bool
+  again = single t && occurs t (typesBefore b i)
+
+  is-repeated : not again ≡ false → Repeated
+  is-repeated e = let p = both-hold (single t) _ (not-false _ e) in (p .0, found b t i (p .1))
+
+  on-repeated : Repeated → not again ≡ false
+  on-repeated r = simp (r .0, occurs-here b t (r .1 .0) i (r .1 .1) (r .1 .2))
+
+  abbrev apart : Bool
+  apart = repeatable t && occurs t (typesBefore b i) && not (eqb (nearest (typesBefore b i)) t)
+
+  is-parted : not apart ≡ false → Parted
+  is-parted e =
+      let p = both-hold (repeatable t && occurs t (typesBefore b i)) _ (not-false _ e) in
+      let q = both-hold (repeatable t) _ (p .0) in
+      let o = found b t i (q .1) in
+      (q .0, o, λ s. eqb-false _ _ (not-true _ (p .1)) (nearest-before b i (omega (arith, o .1)) ∙ s))
+
+  on-parted : Parted → not apart ≡ false
+  on-parted r =
+      simp (r .0, occurs-here b t (r .1 .0) i (r .1 .1) (r .1 .2), nearest-before b i (omega (arith, r .1 .1)), ne-eqb (storedType b (i - 1)) t (r .2))
+
+  pub place-chain : {breaks : ℕ → Type 0} → (breaks PLACE ↔ Misplaced i t) → (breaks REPEAT ↔ Repeated) → (breaks SPLIT ↔ Parted) → Chain breaks 9 12 (placeFault (typesBefore b i) t)
+  unfolding placeFault
+  place-chain p r s =
+      link (placed (length (typesBefore b i)) t) (rw length-types (λ e. p .1 (is-misplaced i t e))) (rw length-types (λ x. on-misplaced i t (p .0 x)))
+      (link _ (λ e. r .1 (is-repeated e)) (λ x. on-repeated (r .0 x))
+      (link _ (λ e. s .1 (is-parted e)) (λ x. on-parted (s .0 x))
+      ends))
 
 -- ---- 5 to 16, attribute i
 module _ (b : List ℕ) (i : ℕ) where
@@ -106,43 +155,23 @@ module _ (b : List ℕ) (i : ℕ) where
       ends)))))
 
   -- 9 to 11
-  on-place : Breaks b i PLACE → placed i (storedType b i) ≡ false
-  on-place (first e n) = sym (placed-first i (storedType b i) e) ∙ ne-eqb (storedType b i) 1 n
-  on-place (second e n) = sym (placed-second i (storedType b i) e) ∙ ne-eqb (storedType b i) 2 n
-  on-place (later l k) =
-      sym (placed-later i (storedType b i) (λ e. omega arith) (λ e. omega arith))
-      ∙ ⊎-elim (λ e. simp (eq-eqb (storedType b i) 1 e)) (λ e. simp (eq-eqb (storedType b i) 2 e, or-true)) k
+  of-place : Breaks b i PLACE → Misplaced i (storedType b i)
+  of-place (first e n) = inl (e, n)
+  of-place (second e n) = inr (inl (e, n))
+  of-place (later l k) = inr (inr (l, k))
 
-  abbrev again : Bool
-  again = single (storedType b i) && occurs (storedType b i) (typesBefore b i)
+  of-repeat : Breaks b i REPEAT → Repeated b i (storedType b i)
+  of-repeat (repeat s o) = (s, o)
 
-  on-repeat : Breaks b i REPEAT → not again ≡ false
-  on-repeat (repeat s o) = simp (s, occurs-here b (storedType b i) (o .0) i (o .1) (o .2))
+  of-split : Breaks b i SPLIT → Parted b i (storedType b i)
+  of-split (split s o n) = (s, o, n)
 
-  is-repeat : not again ≡ false → Breaks b i REPEAT
-  is-repeat e =
-      let p = both-hold (single (storedType b i)) _ (not-false _ e) in
-      repeat (p .0) (found b (storedType b i) i (p .1))
-
-  abbrev apart : Bool
-  apart = repeatable (storedType b i) && occurs (storedType b i) (typesBefore b i) && not (eqb (nearest (typesBefore b i)) (storedType b i))
-
-  on-split : Breaks b i SPLIT → not apart ≡ false
-  on-split (split s o n) =
-      simp (s, occurs-here b (storedType b i) (o .0) i (o .1) (o .2), nearest-before b i (omega (arith, o .1)), ne-eqb (storedType b (i - 1)) (storedType b i) n)
-
-  is-split : not apart ≡ false → Breaks b i SPLIT
-  is-split e =
-      let p = both-hold (repeatable (storedType b i) && occurs (storedType b i) (typesBefore b i)) _ (not-false _ e) in
-      let q = both-hold (repeatable (storedType b i)) _ (p .0) in
-      let o = found b (storedType b i) i (q .1) in
-      split (q .0) o (λ s. eqb-false _ _ (not-true _ (p .1)) (nearest-before b i (omega (arith, o .1)) ∙ s))
-
-  place-chain : Chain (Breaks b i) 9 12 (placeFault (typesBefore b i) (storedType b i))
-  unfolding placeFault
-  place-chain =
-      link (placed (length (typesBefore b i)) (storedType b i)) (rw length-types (is-place b i)) (rw length-types on-place)
-      (link _ is-repeat on-repeat (link _ is-split on-split ends))
+  types-chain : Chain (Breaks b i) 9 12 (placeFault (typesBefore b i) (storedType b i))
+  types-chain =
+      place-chain b i (storedType b i)
+      (of-place, ⊎-elim (λ x. first (x .0) (x .1)) (⊎-elim (λ x. second (x .0) (x .1)) (λ x. later (x .0) (x .1))))
+      (of-repeat, λ x. repeat (x .0) (x .1))
+      (of-split, λ x. split (x .0) (x .1) (x .2))
 
   -- 12 to 16
   on-form : Breaks b i FORM → sizeSuits (storedSize b i) (storedBody b i) ≡ false
@@ -167,7 +196,7 @@ module _ (b : List ℕ) (i : ℕ) where
   -- all of them
   attribute-chain : Chain (Breaks b i) 5 17 (faultOf b (roomOf b) i)
   unfolding attributeFault
-  attribute-chain = then _ _ bounds-chain (then _ _ place-chain body-chain)
+  attribute-chain = then _ _ bounds-chain (then _ _ types-chain body-chain)
 
   in-attribute : (m : ℕ) → Breaks b i m → (5 ≤ m) × (m < 17)
   in-attribute m (header h) = (omega arith, omega arith)

@@ -10,6 +10,8 @@ ghost use Rattle.ultra_reading.specs.Reading.{usedLength, readingOf};
 pub use cursor::Cursor;
 pub use cursor::Header;
 pub use cursor::Step;
+pub use head::room;
+pub use place::next_place_fault;
 use ultra_format::Answer;
 use ultra_format::Refusal;
 

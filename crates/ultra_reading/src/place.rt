@@ -78,3 +78,31 @@ pub fn fault(buf: &[u8], room: usize, index: u32, previous: u32, kind: u32) -> u
     }
     0
 }
+
+// The type of the last of the first `count` attributes, 0 where there is none.
+fn last_type(buf: &[u8], room: usize, count: u32) -> u32
+    requires { ⌜ room ≤ length (now buf) ⌝ }
+    requires { ⌜ Clear (now buf) room count ⌝ }
+    ensures { λ r. ⌜ r ≡ nearest (typesBefore (now (buf .entry)) count) ⌝ }
+{
+    let mut at = 8;
+    let mut kind = 0;
+    let mut i = 0;
+    while i < count {
+        kind = words::load_u32(buf, at);
+        at += words::load_u32(buf, at + 4) as usize;
+        i += 1;
+    }
+    kind
+}
+
+// The first of 9 to 11 that one more attribute, of type `kind`, breaks behind `count` of them, or 0. For adding.
+pub fn next_place_fault(buf: &[u8], room: usize, count: u32, kind: u32) -> u32
+    requires { ⌜ room ≤ length (now buf) ⌝ }
+    requires { ⌜ Clear (now buf) room count ⌝ }
+    requires { ⌜ 1 ≤ kind ⌝ }
+    ensures { λ r. ⌜ r ≡ placeFault (typesBefore (now (buf .entry)) count) kind ⌝ }
+{
+    let previous = last_type(buf, room, count);
+    fault(buf, room, count, previous, kind)
+}
