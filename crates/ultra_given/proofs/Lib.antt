@@ -1,0 +1,4 @@
+pub mod Every
+pub mod Judged
+pub mod Numbers
+pub mod Trimmed

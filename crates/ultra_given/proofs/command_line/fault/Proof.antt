@@ -1,0 +1,27 @@
+-- `ultra_given::command_line::fault` meets its contract: each test answers for its rule.
+-- Assumes nothing.
+use mathlib.Core.Path.{refl, _∙_}
+use borrow.Author.Needs.{needs}
+use denote.Ref.{now}
+use Rattle.ultra_format.specs.Members.{sizeSuits, values, texts, ranges, ordered}
+use Rattle.ultra_format.specs.Plain.{writtenSize}
+use Rattle.ultra_format.specs.Additions.{Addition, bodyGiven}
+use Rattle.ultra_given.proofs.Judged.{judged, line-form, line-text}
+use Rattle.ultra_given.proofs.command_line.fault.Statement.{statement}
+use Rattle.ultra_given.proofs.command_line.fault.Tie as tie
+
+all-ascii-requires : tie.Need-all-ascii-requires
+all-ascii-requires c κs = search needs
+
+first-broken-requires : tie.Need-first-broken-requires
+first-broken-requires c κs = search needs
+
+returns : tie.Need-returns
+unfolding bodyGiven writtenSize sizeSuits values texts ranges ordered
+returns c =
+    let t = now (c .before .before .before .args .text) in
+    let g = Addition.addCommandLine t in
+    judged g (c .first-broken .ensures) (line-form t) refl (c .before .all-ascii .ensures ∙ line-text t) refl refl
+
+pub fault-spec : {M : Type 1} → statement M
+fault-spec = tie.close (tie.spec all-ascii-requires first-broken-requires returns)
