@@ -1,0 +1,5 @@
+pub mod Begun
+pub mod Arrays
+pub mod Present
+pub mod Entries
+pub mod Line

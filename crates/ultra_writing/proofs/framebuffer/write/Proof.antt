@@ -1,0 +1,68 @@
+-- `framebuffer::write` meets its contract: each member is a field more.
+-- Assumes nothing.
+use Rattle.byte_layout.specs.Fields.{Field.number}
+use Rattle.byte_layout.proofs.Written.{next, no-padding}
+use Rattle.ultra_format.specs.Plain.{writtenSize}
+use Rattle.ultra_format.specs.Additions.{bodyGiven}
+use borrow.Author.Needs.{needs}
+use Rattle.ultra_writing.proofs.Begun.{begun}
+use Rattle.ultra_writing.proofs.framebuffer.write.Statement.{statement}
+use Rattle.ultra_writing.proofs.framebuffer.write.Tie as tie
+
+header-requires : tie.Need-header-requires
+header-requires c κs = search needs
+
+store-u32-requires : tie.Need-store-u32-requires
+store-u32-requires c κs = search needs
+
+store-u32-requires-2 : tie.Need-store-u32-requires-2
+store-u32-requires-2 c κs = search needs
+
+store-u32-requires-3 : tie.Need-store-u32-requires-3
+store-u32-requires-3 c κs = search needs
+
+store-u16-requires : tie.Need-store-u16-requires
+store-u16-requires c κs = search needs
+
+store-u16-requires-2 : tie.Need-store-u16-requires-2
+store-u16-requires-2 c κs = search needs
+
+store-u64-requires : tie.Need-store-u64-requires
+store-u64-requires c κs = search needs
+
+same-length : tie.Need-same-length
+same-length c = search needs
+
+returns : tie.Need-returns
+unfolding bodyGiven writtenSize
+returns c =
+    let p6 = c .before .before in
+    let p5 = p6 .before .before .before .before in
+    let p4 = p5 .before .before .before .before in
+    let p3 = p4 .before .before .before .before in
+    let p2 = p3 .before .before .before .before in
+    let p1 = p2 .before .before .before .before in
+    let p0 = p1 .before .before .before .before in
+    let a = p0 .before .before .before .args in
+    let g = a .given in
+    let s0 = begun (a .part .now) 6 32 (p0 .header .ensures) in
+    let s1 = next (number 4 (g .width)) s0 (p1 .store-u32 .ensures) in
+    let s2 = next (number 4 (g .height)) s1 (p2 .store-u322 .ensures) in
+    let s3 = next (number 4 (g .pitch)) s2 (p3 .store-u323 .ensures) in
+    let s4 = next (number 2 (g .bpp)) s3 (p4 .store-u16 .ensures) in
+    let s5 = next (number 2 (g .format)) s4 (p5 .store-u162 .ensures) in
+    no-padding (next (number 8 (g .address)) s5 (p6 .store-u64 .ensures)) .front
+
+pub write-spec : {M : Type 1} → statement M
+write-spec =
+    tie.close
+    (tie.spec
+    header-requires
+    store-u32-requires
+    store-u32-requires-2
+    store-u32-requires-3
+    store-u16-requires
+    store-u16-requires-2
+    store-u64-requires
+    same-length
+    returns)

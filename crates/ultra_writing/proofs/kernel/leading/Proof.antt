@@ -1,0 +1,53 @@
+-- `kernel::leading` meets its contract: each member is a field more.
+-- Assumes nothing.
+use borrow.Author.Needs.{needs}
+use Rattle.byte_layout.specs.Fields.{Field.number}
+use Rattle.byte_layout.proofs.Written.{next}
+use Rattle.ultra_writing.proofs.Begun.{begun}
+use Rattle.ultra_writing.proofs.kernel.leading.Statement.{statement}
+use Rattle.ultra_writing.proofs.kernel.leading.Tie as tie
+
+header-requires : tie.Need-header-requires
+header-requires c κs = search needs
+
+store-u64-requires : tie.Need-store-u64-requires
+store-u64-requires c κs = search needs
+
+store-u64-requires-2 : tie.Need-store-u64-requires-2
+store-u64-requires-2 c κs = search needs
+
+store-u64-requires-3 : tie.Need-store-u64-requires-3
+store-u64-requires-3 c κs = search needs
+
+store-u64-requires-4 : tie.Need-store-u64-requires-4
+store-u64-requires-4 c κs = search needs
+
+same-length : tie.Need-same-length
+same-length c = search needs
+
+returns : tie.Need-returns
+returns c =
+    let p4 = c .before .before in
+    let p3 = p4 .before .before .before .before in
+    let p2 = p3 .before .before .before .before in
+    let p1 = p2 .before .before .before .before in
+    let p0 = p1 .before .before .before .before in
+    let a = p0 .before .before .before .args in
+    let g = a .given in
+    let s0 = begun (a .part .now) 2 336 (p0 .header .ensures) in
+    let s1 = next (number 8 (g .«physical_base»)) s0 (p1 .store-u64 .ensures) in
+    let s2 = next (number 8 (g .«virtual_base»)) s1 (p2 .store-u642 .ensures) in
+    let s3 = next (number 8 (g .size)) s2 (p3 .store-u643 .ensures) in
+    next (number 8 (g .«partition_type»)) s3 (p4 .store-u644 .ensures) .front
+
+pub leading-spec : {M : Type 1} → statement M
+leading-spec =
+    tie.close
+    (tie.spec
+    header-requires
+    store-u64-requires
+    store-u64-requires-2
+    store-u64-requires-3
+    store-u64-requires-4
+    same-length
+    returns)

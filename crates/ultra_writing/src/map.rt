@@ -1,0 +1,27 @@
+// The memory map: type 3. "The memory map comes as 64-bit numbers, three to an entry".
+ghost use mathlib.Core.Path.{_≡_};
+ghost use Prim.Native.Nat.{_%_, _≤_, _<_};
+ghost use lib.ListN.{length};
+ghost use Rattle.byte_layout.specs.Stored.{over};
+ghost use Rattle.ultra_format.specs.Additions.{Addition, sizeGiven, bytesGiven};
+
+// How many bytes the attribute has. Numbers left over are no entry.
+pub fn size(numbers: &[u64]) -> usize
+    ensures { λ r. ⌜ r ≡ sizeGiven (Addition.addMap (now (numbers .entry))) ⌝ }
+{
+    8 + 24 * (numbers.len() / 3)
+}
+
+pub fn write(part: &mut [u8], numbers: &[u64])
+    requires { ⌜ sizeGiven (Addition.addMap (now numbers)) ≤ length (now part) ⌝ }
+    requires { ⌜ (length (now numbers) % 3 ≡ 0) × (sizeGiven (Addition.addMap (now numbers)) < 4294967296) ⌝ }
+    ensures { λ _. ⌜ now (part .exit) ≡ over (bytesGiven (Addition.addMap (now (numbers .entry)))) (now (part .entry)) ⌝ }
+{
+    let whole = size(numbers);
+    crate::header(part, 3, whole as u32);
+    let mut i = 0;
+    while i < numbers.len() {
+        words::store_u64(part, 8 + 8 * i, numbers[i]);
+        i += 1;
+    }
+}
