@@ -1,0 +1,4 @@
+pub mod Beginnings
+pub mod Placements
+pub mod Adding
+pub mod AddingRefusals

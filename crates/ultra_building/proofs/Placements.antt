@@ -1,0 +1,120 @@
+-- Laws of a new attribute's place: each answer from the facts that lead to it, what it says that reading accepted the buffer, and what
+-- it says that a place was admitted.
+-- Assumes nothing.
+use Prim.Native.Nat.{ℕ, _+_, _-_, _≤_, _<_}
+use mathlib.Core.Path.{_≡_, refl, sym}
+use mathlib.Core.List.{List}
+use native.Mathlib.Omega.{arith}
+use lib.ListN.{length}
+use lib.Dec.{leb, ltb}
+use borrow.Author.Tests.{le-leb, lt-leb, leb-true, lt-ltb, le-ltb, ltb-true}
+use Rattle.words.specs.Words.{littleEndian, replaced}
+use Rattle.ultra_format.specs.Answers.{refusal}
+use Rattle.ultra_format.specs.Layouts.{roomOf}
+use Rattle.ultra_format.specs.Places.{placeFault}
+use Rattle.ultra_format.specs.Decoding.{storedCount, typesBefore}
+use Rattle.ultra_format.specs.declared.Refusal.{Refusal}
+use Rattle.ultra_format.specs.declared.Answer.{Answer}
+use Rattle.ultra_format.specs.declared.Answer.the-variants.{Done, Refused}
+use Rattle.ultra_format.proofs.Chains.{passed, none-first, first-stays, refuses, not-refused}
+use Rattle.ultra_reading.specs.Reading.{Clear, usedLength}
+use Rattle.ultra_acceptance.proofs.Walked.{accepted, passing, inside}
+use Rattle.ultra_building.specs.Building.{placementFault, placementIn, placement, counted, admitted}
+
+-- ---- a buffer that was read
+pub record Read (b : List ℕ) (n : ℕ) : Type 0 where
+  pub room : 8 ≤ roomOf b
+  pub clear : Clear b (roomOf b) (storedCount b)
+  pub within : n ≤ roomOf b
+  pub most : storedCount b ≤ 1024
+
+pub was-read : (b : List ℕ) (n : ℕ) → usedLength 0 b ≡ Done n → Read b n
+was-read b n e =
+    let a = accepted 0 b n e in
+    record {
+      room = a .head .room;
+      clear = λ j l. passing b (roomOf b) j (a .each j l);
+      within = rw (a .used) (inside b (roomOf b) (storedCount b) (a .head .room) (a .each));
+      most = a .head .most;
+    }
+
+-- ---- the chain
+module _ (before : List ℕ) (room used t given size : ℕ) where
+  pub stop-full : 1024 ≤ length before → 17 ≡ placementFault before room used t given size
+  unfolding placementFault
+  stop-full h = simp (le-ltb (length before) 1024 h)
+
+  module _ (few : length before < 1024) where
+    pub stop-place : (placeFault before t ≡ 0 → ⊥) → placeFault before t ≡ placementFault before room used t given size
+    unfolding placementFault
+    stop-place h = rw (lt-ltb (length before) 1024 few) (first-stays (placeFault before t) _ h)
+
+    module _ (place : placeFault before t ≡ 0) where
+      pub stop-given : (given ≡ 0 → ⊥) → given ≡ placementFault before room used t given size
+      unfolding placementFault
+      stop-given h = rw (lt-ltb (length before) 1024 few, place) (first-stays given _ h)
+
+      module _ (sound : given ≡ 0) where
+        pub stop-room : room < used + size → 18 ≡ placementFault before room used t given size
+        unfolding placementFault
+        stop-room h = rw (lt-ltb (length before) 1024 few, place, sound, lt-leb (used + size) room h)
+
+        pub pass : used + size ≤ room → 0 ≡ placementFault before room used t given size
+        unfolding placementFault
+        pass h = rw (lt-ltb (length before) 1024 few, place, sound, le-leb (used + size) room h)
+
+-- what 0 says
+pub record Admits (before : List ℕ) (room used t given size : ℕ) : Type 0 where
+  pub few : length before < 1024
+  pub place : placeFault before t ≡ 0
+  pub sound : given ≡ 0
+  pub within : used + size ≤ room
+
+pub admits : (before : List ℕ) (room used t given size : ℕ) → placementFault before room used t given size ≡ 0 → Admits before room used t given size
+unfolding placementFault
+admits before room used t given size e =
+    let p1 = passed (ltb (length before) 1024) _ _ e in
+    let p2 = none-first (placeFault before t) _ (p1 .1) in
+    let p3 = none-first given _ (p2 .1) in
+    let p4 = passed (leb (used + size) room) _ _ (p3 .1) in
+    record { few = ltb-true _ _ (p1 .0); place = p2 .0; sound = p3 .0; within = leb-true _ _ (p4 .0) }
+
+-- ---- the place
+abbrev number : List ℕ → ℕ → ℕ → ℕ → ℕ → ℕ
+number b n t given size = placementFault (typesBefore b (storedCount b)) (roomOf b) n t given size
+
+module _ (b : List ℕ) (t given size : ℕ) where
+  -- "gives that refusal"
+  pub unread : (a : Answer) (r : Refusal) → a ≡ usedLength 0 b → a ≡ Refused r → a ≡ placement b t given size
+  unfolding placement
+  unread a r e i = rw (← e, i)
+
+  pub no-place : (n f : ℕ) (r : Refusal) → usedLength 0 b ≡ Done n → f ≡ number b n t given size → (f ≡ 0 → ⊥) → r ≡ refusal f n → Refused r ≡ placement b t given size
+  unfolding placement
+  no-place n f r e q h i = rw (e, ← q, i) (sym (refuses f n (Done n) h))
+
+  pub place-is : (n f : ℕ) → usedLength 0 b ≡ Done n → f ≡ number b n t given size → f ≡ 0 → Done n ≡ placement b t given size
+  unfolding placement
+  place-is n f e q h = rw (e, ← q, h)
+
+  -- what a place says
+  pub placed : (n : ℕ) → placement b t given size ≡ Done n → (usedLength 0 b ≡ Done n) × Admits (typesBefore b (storedCount b)) (roomOf b) n t given size
+  unfolding placement
+  placed n e = go (usedLength 0 b) refl e
+    where
+      go : (a : Answer) → usedLength 0 b ≡ a → placementIn b t given size a ≡ Done n → (usedLength 0 b ≡ Done n) × Admits (typesBefore b (storedCount b)) (roomOf b) n t given size
+      go (Done m) q w =
+          let p = not-refused (number b m t given size) m (Done m) n w in
+          let z : m ≡ n = cc in
+          rw (← z) (q, admits _ _ _ _ _ _ (p .0))
+      go (Refused r) q w = absurd (let z : _≡_ {A = ℕ} 0 1 = cc in omega arith)
+
+  -- ---- admitted
+  pub admit-refused : (a : Answer) (r : Refusal) → a ≡ Refused r → a ≡ placement b t given size → (a, b) ≡ admitted b t given size
+  unfolding admitted
+  admit-refused a r i e = rw (← e, i)
+
+  pub admit-done : (q : List ℕ) (a : Answer) (n k : ℕ) → a ≡ Done n → a ≡ placement b t given size → k ≡ storedCount b → q ≡ replaced b 4 4 (littleEndian 4 (k + 1))
+      → (a, q) ≡ admitted b t given size
+  unfolding admitted counted
+  admit-done q a n k i e h g = rw (← e, i, g, h)

@@ -1,0 +1,97 @@
+-- `ultra_building::adds::add_command_line` meets its contract.
+-- Assumes nothing.
+use mathlib.Core.Path.{refl}
+use native.Mathlib.Omega.{arith}
+use borrow.Author.Needs.{needs}
+use denote.Ref.{now}
+use Rattle.ultra_format.specs.Additions.{bodyGiven}
+use Rattle.ultra_format.specs.Additions.{Addition.addCommandLine}
+use Rattle.ultra_building.proofs.Adding.{Given, Place, place, add-refused, add-done}
+use Rattle.ultra_building.proofs.adds.add_command_line.Statement.{statement}
+use Rattle.ultra_building.proofs.adds.add_command_line.Tie as tie
+
+given : (c : tie.After-size) → Given (addCommandLine (now (c .before .before .before .before .args .text))) 5 (c .before .fault .result) (c .size .result)
+unfolding bodyGiven
+given c = record { kind = refl; faulty = c .before .fault .ensures; wide = c .size .ensures }
+
+here : (c : tie.After-known-told)
+    → let z = c .before .before .before .before .before .before .before in
+    Place (c .before .before .before .before .before .admit .last .0) (addCommandLine (now (z .before .before .before .before .args .text))) (c .before .answer .given .0 .0) (z .size .result)
+here c =
+    let o = c .before .before .before .before .before in
+    place _ _ _ _ _ _ (given (o .before .before)) _ (o .admit .ensures) _ (c .before .answer .given .1)
+
+fault-requires : tie.Need-fault-requires
+fault-requires c κs = search needs
+
+size-requires : tie.Need-size-requires
+size-requires c κs = search needs
+
+admit-requires : tie.Need-admit-requires
+admit-requires c κs = search needs
+
+enum-known-answer : tie.Need-enum-known-answer
+enum-known-answer c = search needs
+
+enum-told : tie.Need-enum-told
+enum-told c = search needs
+
+same-length : tie.Need-same-length
+same-length c = search needs
+
+returns : tie.Need-returns
+returns c =
+    let o = c .before .before .before .before in
+    add-refused _ _ _ _ _ _ (given (o .before .before)) _ (o .admit .ensures) _ (c .enum-told .given .1)
+
+cast-write : tie.Need-cast-write
+cast-write c = search needs
+
+sub-write : tie.Need-sub-write
+sub-write c = omega (arith, here c)
+
+part-write-start : tie.Need-part-write-start
+part-write-start c = omega (arith, here c)
+
+part-write-end : tie.Need-part-write-end
+part-write-end c = search needs
+
+write-requires : tie.Need-write-requires
+write-requires c κs = let h = here (c .before) in (omega arith, omega arith)
+
+cast-t15 : tie.Need-cast-t15
+cast-t15 c = omega (arith, here (c .before .before .before .before))
+
+add-t16 : tie.Need-add-t16
+add-t16 c = omega (arith, here (c .before .before .before .before))
+
+same-length-2 : tie.Need-same-length-2
+same-length-2 c = search needs
+
+returns-2 : tie.Need-returns-2
+returns-2 c =
+    let w = c .before .before in
+    let k = w .before .before in
+    let o = k .before .before .before .before .before in
+    add-done _ _ _ _ _ _ (given (o .before .before)) _ (o .admit .ensures) _ _ _ (k .before .answer .given .1) refl (w .write .ensures)
+
+pub add-command-line-spec : {M : Type 1} → statement M
+add-command-line-spec =
+    tie.close
+    (tie.spec
+    fault-requires
+    size-requires
+    admit-requires
+    enum-known-answer
+    enum-told
+    same-length
+    returns
+    cast-write
+    sub-write
+    part-write-start
+    part-write-end
+    write-requires
+    cast-t15
+    add-t16
+    same-length-2
+    returns-2)

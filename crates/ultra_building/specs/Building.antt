@@ -1,0 +1,72 @@
+-- What beginning and adding answer, and what they leave in the buffer.
+-- Assumes nothing.
+use Prim.Native.Nat.{ℕ, _+_}
+use mathlib.Core.List.{List, [], _∷_}
+use lib.ListN.{length}
+use lib.Dec.{leb, ltb}
+use Rattle.words.specs.Words.{littleEndian, replaced}
+use Rattle.byte_layout.specs.Stored.{over}
+use Rattle.ultra_format.specs.Refusals.{unless, firstOf, SHORT, FULL, ROOM}
+use Rattle.ultra_format.specs.Answers.{refused, orRefused}
+use Rattle.ultra_format.specs.Layouts.{roomOf}
+use Rattle.ultra_format.specs.Places.{placeFault}
+use Rattle.ultra_format.specs.Decoding.{pick, storedCount, typesBefore}
+use Rattle.ultra_format.specs.Additions.{Addition, typeGiven, sizeGiven, bytesGiven, additionFault}
+use Rattle.ultra_format.specs.declared.Answer.{Answer}
+use Rattle.ultra_format.specs.declared.Answer.the-variants.{Done, Refused}
+use Rattle.ultra_reading.specs.Reading.{usedLength}
+
+-- ---- beginning
+-- "Beginning writes the 8 bytes 01 00 00 00 00 00 00 00 and nothing more; only SHORT, with offset 0, refuses it."
+abbrev pub emptyHead : List ℕ
+emptyHead = 1 ∷ 0 ∷ 0 ∷ 0 ∷ 0 ∷ 0 ∷ 0 ∷ 0 ∷ []
+
+-- the answer, and the buffer afterwards
+unfoldable pub begun : List ℕ → Answer × List ℕ
+begun b = pick (leb 8 (roomOf b)) (Done 8, over emptyHead b) (refused SHORT 0, b)
+
+-- ---- adding
+-- "Then, with the used length as offset: 17, 9, 10, 11, 12, 13, 14, 15, 16, 18, tried on the record given": the first of them, or 0, for
+-- an attribute of type `t`, with the fault `fault` of 12 to 16 and of `size` bytes, behind attributes of the types `before` (the
+-- nearest first) that end at `used`
+unfoldable pub placementFault : List ℕ → ℕ → ℕ → ℕ → ℕ → ℕ → ℕ
+placementFault before room used t fault size =
+    unless (ltb (length before) 1024) FULL
+    (firstOf (placeFault before t)
+    (firstOf fault
+    (unless (leb (used + size) room) ROOM
+    0)))
+
+-- where the attribute goes in a buffer that has been read, or the refusal
+abbrev pub placementIn : List ℕ → ℕ → ℕ → ℕ → Answer → Answer
+placementIn b t fault size (Refused r) = Refused r
+placementIn b t fault size (Done n) =
+    orRefused (placementFault (typesBefore b (storedCount b)) (roomOf b) n t fault size) n (Done n)
+
+-- "Adding first reads the buffer by all rules but the lower limit of the count, and gives that refusal."
+unfoldable pub placement : List ℕ → ℕ → ℕ → ℕ → Answer
+placement b t fault size = placementIn b t fault size (usedLength 0 b)
+
+-- "raises the head's count by one"
+unfoldable pub counted : List ℕ → List ℕ
+counted b = replaced b 4 4 (littleEndian 4 (storedCount b + 1))
+
+-- one more attribute is admitted: what is answered, and the buffer with one more counted
+abbrev pub admittedAt : List ℕ → Answer → Answer × List ℕ
+admittedAt b (Done n) = (Done n, counted b)
+admittedAt b (Refused r) = (Refused r, b)
+
+unfoldable pub admitted : List ℕ → ℕ → ℕ → ℕ → Answer × List ℕ
+admitted b t fault size = admittedAt b (placement b t fault size)
+
+-- "Success writes the body into the middle of the buffer, at the used length, raises the head's count by one and changes no other byte"
+abbrev pub withAttribute : List ℕ → ℕ → Addition → List ℕ
+withAttribute b n g = replaced (counted b) n (length (bytesGiven g)) (bytesGiven g)
+
+-- the answer, and the buffer afterwards: success answers the new used length, and a refusal changes nothing
+abbrev pub addedAt : List ℕ → Addition → Answer → Answer × List ℕ
+addedAt b g (Done n) = (Done (n + sizeGiven g), withAttribute b n g)
+addedAt b g (Refused r) = (Refused r, b)
+
+unfoldable pub added : List ℕ → Addition → Answer × List ℕ
+added b g = addedAt b g (placement b (typeGiven g) (additionFault g) (sizeGiven g))
