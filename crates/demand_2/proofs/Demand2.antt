@@ -1,0 +1,122 @@
+-- Demand 2 holds. The calls keep buffer and list alike (Following) and answer by the list (Replies), and what is read back of a buffer
+-- are the records of its attributes (ReadingBack, Rebuilding).
+-- Assumes nothing.
+use Prim.Native.Nat.{ℕ, _+_, _-_, _≤_, _<_}
+use mathlib.Core.Path.{_≡_, refl, ap, _∙_, subst, sym}
+use mathlib.Core.Bool.{Bool, true, false}
+use mathlib.Core.List.{List, []}
+use native.Mathlib.Omega.{arith}
+use lib.ListN.{length, drop, getD}
+use lib.Dec.{leb}
+use borrow.Author.Tests.{leb-true, lt-leb}
+use lib.Seq.{getD-drop, getD-append-add}
+use Rattle.byte_layout.specs.Stored.{over}
+use Rattle.ultra_format.specs.Refusals.{SHORT}
+use Rattle.ultra_format.specs.Answers.{refused, numberOf}
+use Rattle.ultra_format.specs.Layouts.{roomOf}
+use Rattle.ultra_format.specs.Decoding.{pick}
+use Rattle.ultra_format.specs.Additions.{typeGiven, sizeGiven, additionFault}
+use Rattle.ultra_format.specs.declared.Answer.{Answer}
+use Rattle.ultra_format.specs.declared.Answer.the-variants.{Done, Refused}
+use Rattle.ultra_building.specs.Building.{emptyHead, begun, placement, addedAt, added}
+use Rattle.demand_2.specs.Calls.{Call, run, AllTyped}
+use Rattle.demand_2.specs.Calls.{Call.begin, Call.add, Call.read, Call.askUsed, Call.step, Call.askAttribute, Call.askStart, Call.askPart, Call.copyMap, Call.askLine, Call.locateLine, Call.askModule}
+use Rattle.demand_2.specs.Calls.{Reply.answer}
+use Rattle.demand_2.specs.Model.{contextGiven, listAfterAll, replyTo}
+use Rattle.demand_2.specs.Demand2.{Follows, Undetermined, StepsThrough, ReadsBack, bufferNow, listNow, Demand2}
+use Rattle.demand_2.proofs.Appending.{appends}
+use Rattle.demand_2.proofs.Following.{Keeps, length-given, begun-is, begin-follows, same-room, follows-all}
+use Rattle.demand_2.proofs.Replies.{held-two, steps-through, replies-by-list}
+use Rattle.demand_2.proofs.ReadingBack.{reads-back}
+use Rattle.demand_2.proofs.Rebuilding.{rebuilds}
+
+begins : (b : List ℕ) → 8 ≤ length b → (begun b .0 ≡ Done 8) × ((i : ℕ) → 8 ≤ i → getD (begun b .1) i 0 ≡ getD b i 0)
+begins b h =
+    rw (begun-is b h) (
+      refl,
+      λ i k.
+          let q : i ≡ 8 + (i - 8) = omega arith in
+          ap (λ (j : ℕ). getD (over emptyHead b) j 0) q ∙ getD-append-add emptyHead (drop 8 b) (i - 8) 0 ∙ getD-drop 8 b (i - 8) 0 ∙ ap (λ (j : ℕ). getD b j 0) (sym q),
+    )
+
+begins-not : (b : List ℕ) → length b < 8 → begun b ≡ (refused SHORT 0, b)
+unfolding begun
+begins-not b h = rw (lt-leb 8 (roomOf b) (omega arith))
+
+-- an accepted beginning had the room
+begun-long : (b : List ℕ) → begun b .0 ≡ Done 8 → 8 ≤ length b
+unfolding begun
+begun-long b e = go (leb 8 (roomOf b)) refl e
+  where
+    go : (t : Bool) → leb 8 (roomOf b) ≡ t → pick {X = Answer × List ℕ} t (Done 8, over emptyHead b) (refused SHORT 0, b) .0 ≡ Done 8 → 8 ≤ length b
+    go true q w = omega (arith, leb-true 8 (roomOf b) q)
+    go false q w = absurd (let z : _≡_ {A = ℕ} 0 1 = cc in omega arith)
+
+-- ---- after any calls behind it
+module _ (b : List ℕ) (ks : List Call) (e : begun b .0 ≡ Done 8) (y : AllTyped ks) where
+  -- the buffer is as long as it was, and keeps to the list
+  kept : Keeps (bufferNow b ks) (listNow b ks) × (length (bufferNow b ks) ≡ length b)
+  kept =
+      let s = begin-follows b (begun-long b e) in
+      let r = follows-all ks (begun b .1) [] (s .0) y in
+      (subst (λ (n : ℕ). Keeps (bufferNow b ks) (listAfterAll n ks [])) (same-room (begun b .1) b (s .1)) (r .0), r .1 ∙ s .1)
+
+  follows : Follows (bufferNow b ks) (listNow b ks)
+  follows = kept .0 .follows
+
+  steps : 2 ≤ length (listNow b ks) → StepsThrough (bufferNow b ks) (contextGiven (listNow b ks))
+  steps h = steps-through (bufferNow b ks) (listNow b ks) follows (omega (arith, length-given (listNow b ks)))
+
+  reads : 2 ≤ length (listNow b ks) → ReadsBack (bufferNow b ks) (listNow b ks)
+  reads h = reads-back (bufferNow b ks) (listNow b ks) (held-two (bufferNow b ks) (listNow b ks) follows (omega (arith, length-given (listNow b ks)))) (kept .0 .added)
+
+answers : (b : List ℕ) (ks : List Call) (k : Call) → begun b .0 ≡ Done 8 → AllTyped ks
+    → (Undetermined (roomOf b) (contextGiven (listNow b ks)) k → ⊥)
+    → run k (bufferNow b ks) .0 ≡ replyTo (roomOf b) k (listNow b ks)
+answers b ks k e y n =
+    let q = same-room (bufferNow b ks) b (kept b ks e y .1) in
+    replies-by-list (bufferNow b ks) (listNow b ks) (follows b ks e y) k (λ u. n (subst (λ (r : ℕ). Undetermined r (contextGiven (listNow b ks)) k) q u))
+    ∙ ap (λ (r : ℕ). replyTo r k (listNow b ks)) q
+
+-- ---- a refusal changes nothing
+same : (a b : Answer) → answer a ≡ answer b → a ≡ b
+same a b e = cc
+
+refusals : (b : List ℕ) (k : Call) (a : Answer) → run k b .0 ≡ answer a → (numberOf a ≡ 0 → ⊥) → run k b .1 ≡ b
+unfolding run begun added
+refusals b begin a e n = go (leb 8 (roomOf b)) e
+  where
+    go : (t : Bool) → answer (pick {X = Answer × List ℕ} t (Done 8, over emptyHead b) (refused SHORT 0, b) .0) ≡ answer a
+        → pick {X = Answer × List ℕ} t (Done 8, over emptyHead b) (refused SHORT 0, b) .1 ≡ b
+    go true w = absurd (n (ap numberOf (same a (Done 8) (sym w))))
+    go false w = refl
+refusals b (add g) a e n = go (placement b (typeGiven g) (additionFault g) (sizeGiven g)) e
+  where
+    go : (p : Answer) → answer (addedAt b g p .0) ≡ answer a → addedAt b g p .1 ≡ b
+    go (Done v) w = absurd (n (ap numberOf (same a (Done (v + sizeGiven g)) (sym w))))
+    go (Refused r) w = refl
+refusals b read a e n = refl
+refusals b (askUsed fewest) a e n = refl
+refusals b (step k) a e n = refl
+refusals b (askAttribute i) a e n = refl
+refusals b (askStart i) a e n = refl
+refusals b (askPart i) a e n = refl
+refusals b (copyMap out) a e n = refl
+refusals b askLine a e n = refl
+refusals b locateLine a e n = refl
+refusals b (askModule m) a e n = refl
+
+pub demand-2 : Demand2
+demand-2 =
+    record {
+      begins = begins;
+      beginsNot = begins-not;
+      follows = follows;
+      sameLength = λ b ks e y. kept b ks e y .1;
+      answers = answers;
+      steps = steps;
+      refusals = refusals;
+      appends = appends;
+      readsBack = reads;
+      rebuilds = λ b d c h p w. rebuilds b c h p d w;
+    }

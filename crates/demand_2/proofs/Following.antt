@@ -1,0 +1,189 @@
+-- After every call the buffer is as the list says.
+-- Assumes nothing.
+use Prim.Native.Nat.{ℕ, zero, suc, _+_, _≤_, _<_, min}
+use mathlib.Core.Path.{_≡_, refl, sym, ap, _∙_, subst}
+use mathlib.Core.List.{List, [], _∷_, _++_}
+use native.Mathlib.Omega.{arith}
+use native.Mathlib.Nat.{not-suc-le-zero, add-zero, zero-add}
+use lib.ListN.{length, getD, take, length-drop}
+use borrow.Author.Tests.{le-leb}
+use Rattle.byte_layout.specs.Fields.{cells, filled, Fits}
+use Rattle.byte_layout.specs.Stored.{over}
+use Rattle.ultra_format.specs.Answers.{orRefused}
+use Rattle.ultra_format.specs.Contexts.{typeOf, Attribute, Context, total, used}
+use Rattle.ultra_format.specs.Layouts.{attributesFields, layout, Opens, roomOf, written}
+use Rattle.ultra_format.specs.Rules.{Meets}
+use Rattle.ultra_format.specs.Decoding.{storedType, storedCount, typesBefore}
+use Rattle.ultra_format.specs.Additions.{Addition, attributeGiven, additionFault, sizeGiven}
+use Rattle.ultra_format.specs.Additions.{Addition.addCommandLine}
+use Rattle.ultra_format.specs.declared.Answer.the-variants.{Done}
+use Rattle.ultra_format.proofs.Attributes.{at, sized, Says, opens-says}
+use Rattle.byte_layout.proofs.Cells.{at-opens}
+use Rattle.ultra_acceptance.specs.Acceptance.{HeldBy}
+use Rattle.ultra_acceptance.proofs.Acceptance.{complete}
+use Rattle.ultra_building.specs.Building.{emptyHead, begun, addedAt, added}
+use Rattle.ultra_building.proofs.Adding.{faultOn, added-held}
+use Rattle.demand_2.specs.Calls.{Call, run, after, AdditionTyped, Typed, AllTyped}
+use Rattle.demand_2.specs.Calls.{Call.begin, Call.add, Call.read, Call.askUsed, Call.step, Call.askAttribute, Call.askStart, Call.askPart, Call.copyMap, Call.askLine, Call.locateLine, Call.askModule}
+use Rattle.demand_2.specs.Model.{attributesGiven, contextGiven, typesBehind, refusalOf, appended, listAfter, listAfterAll}
+use Rattle.demand_2.specs.Demand2.{Follows}
+use Rattle.demand_2.proofs.Appending.{all-more, says-type, sound, left-length, written-left, held-more, total-more}
+
+-- ---- the list
+-- every element was of its type, and had no fault of 12 to 16
+abbrev pub Added : List Addition → Type 0
+Added gs = (i : ℕ) → i < length gs → AdditionTyped (getD gs i (addCommandLine [])) × (additionFault (getD gs i (addCommandLine [])) ≡ 0)
+
+-- what a call finds and leaves
+pub record Keeps (d : List ℕ) (gs : List Addition) : Type 0 where
+  pub follows : Follows d gs
+  pub added : Added gs
+
+pub length-given : (gs : List Addition) → length (attributesGiven gs) ≡ length gs
+unfolding attributesGiven
+length-given [] = refl
+length-given (g ∷ gs) = ap suc (length-given gs)
+
+pub given-append : (gs more : List Addition) → attributesGiven (gs ++ more) ≡ attributesGiven gs ++ attributesGiven more
+unfolding attributesGiven
+given-append [] more = refl
+given-append (g ∷ gs) more = ap (λ (l : List Attribute). attributeGiven g ∷ l) (given-append gs more)
+
+pub used-more : (gs : List Addition) (g : Addition) → used (contextGiven (gs ++ (g ∷ []))) ≡ used (contextGiven gs) + sizeGiven g
+unfolding attributesGiven
+used-more gs g = omega (arith, ap total (given-append gs (g ∷ [])), total-more (attributesGiven gs) (attributeGiven g))
+
+-- its types are those that the buffer has
+pub types-behind : (d : List ℕ) (k : ℕ) (gs : List Addition) → ((i : ℕ) → i < length gs → storedType d (k + i) ≡ typeOf (at (attributesGiven gs) i .body))
+    → typesBehind (typesBefore d k) gs ≡ typesBefore d (k + length gs)
+unfolding typesBehind typesBefore attributesGiven
+types-behind d k [] h = rw add-zero
+types-behind d k (g ∷ gs) h =
+    let q : suc k + length gs ≡ k + suc (length gs) = omega arith in
+    let t = rw add-zero at (h 0 (omega arith)) in
+    rw (← q, ← t) (types-behind d (suc k) gs (λ i l. let r : suc k + i ≡ k + suc i = omega arith in rw r (h (suc i) (omega arith))))
+
+-- ---- a buffer that follows it
+held-follows : (d : List ℕ) (gs : List Addition) → HeldBy 0 d (contextGiven gs) → take (used (contextGiven gs)) d ≡ written (contextGiven gs) → Follows d gs
+held-follows d gs h e =
+    record {
+      bytes = e;
+      counted = opens-says d (contextGiven gs) (h .0 .fits) (sized (h .0)) (h .1) .count ∙ length-given gs;
+      usedIs = complete 0 d (contextGiven gs) (h .0) (h .1);
+      held = h;
+    }
+
+module _ (d : List ℕ) (gs : List Addition) (f : Follows d gs) where
+  pub says-given : Says d (contextGiven gs)
+  says-given = opens-says d (contextGiven gs) (f .held .0 .fits) (sized (f .held .0)) (f .held .1)
+
+  types-given : typesBehind [] gs ≡ typesBefore d (storedCount d)
+  unfolding typesBefore
+  types-given =
+      types-behind d 0 gs (λ i l. rw zero-add (says-type d (contextGiven gs) says-given i (omega (arith, length-given gs))))
+      ∙ ap (typesBefore d) (zero-add (length gs) ∙ sym (f .counted))
+
+  same-fault : (g : Addition) → faultOn d (contextGiven gs) g ≡ refusalOf (roomOf d) gs g
+  same-fault g = rw types-given
+
+  pub long : 8 ≤ length d
+  long = omega (arith, f .held .0 .within)
+
+  -- what an add does, by the refusal of the list
+  pub added-is : (g : Addition) → added d g ≡ addedAt d g (orRefused (refusalOf (roomOf d) gs g) (used (contextGiven gs)) (Done (used (contextGiven gs))))
+  added-is g = added-held d (contextGiven gs) g (f .held) ∙ rw (same-fault g)
+
+-- ---- a beginning
+empty-meets : (room : ℕ) → 8 ≤ room → Meets 0 room (contextGiven [])
+unfolding Fits attributesGiven attributesFields total
+empty-meets room h =
+    record {
+      fits = (omega arith, (omega arith, (tt, (omega arith, tt))));
+      major = omega arith;
+      enough = omega arith;
+      most = omega arith;
+      within = h;
+      typed = λ i l. absurd (not-suc-le-zero l);
+      first = λ l. absurd (not-suc-le-zero l);
+      second = λ l. absurd (not-suc-le-zero l);
+      later = λ i r l. absurd (not-suc-le-zero l);
+      once = λ i j r l. absurd (not-suc-le-zero l);
+      together = λ i j k r s l. absurd (not-suc-le-zero l);
+      each = λ i l. absurd (not-suc-le-zero l);
+    }
+
+module _ (b : List ℕ) (h : 8 ≤ length b) where
+  pub begun-is : begun b ≡ (Done 8, over emptyHead b)
+  unfolding begun
+  begun-is = rw (le-leb 8 (roomOf b) (omega arith))
+
+  begun-length : length (over emptyHead b) ≡ length b
+  begun-length = omega (arith, length-drop 8 b)
+
+  begun-bytes : take (used (contextGiven [])) (over emptyHead b) ≡ written (contextGiven [])
+  unfolding cells filled attributesGiven attributesFields total
+  begun-bytes = refl
+
+  begun-opens : Opens (over emptyHead b) (contextGiven [])
+  unfolding cells attributesGiven attributesFields
+  begun-opens = at-opens (over emptyHead b) (cells (layout (contextGiven []))) (omega (arith, begun-length)) (refl, (refl, (refl, (refl, (refl, (refl, tt))))))
+
+  pub begin-follows : Keeps (begun b .1) [] × (length (begun b .1) ≡ length b)
+  begin-follows =
+      rw begun-is (
+        record {
+          follows = held-follows (over emptyHead b) [] (empty-meets (roomOf (over emptyHead b)) (omega (arith, begun-length)), begun-opens) begun-bytes;
+          added = λ i l. absurd (not-suc-le-zero l);
+        },
+        begun-length,
+      )
+
+-- ---- a call
+module _ (d : List ℕ) (gs : List Addition) (h : Keeps d gs) where
+  abbrev now : Context
+  now = contextGiven gs
+
+  add-follows : (g : Addition) → AdditionTyped g → Keeps (added d g .1) (appended (refusalOf (roomOf d) gs g) gs g) × (length (added d g .1) ≡ length d)
+  unfolding attributesGiven
+  add-follows g y = rw (added-is d gs (h .follows) g) (go (refusalOf (roomOf d) gs g) refl)
+    where
+      go : (f : ℕ) → refusalOf (roomOf d) gs g ≡ f
+          → Keeps (addedAt d g (orRefused f (used now) (Done (used now))) .1) (appended f gs g) × (length (addedAt d g (orRefused f (used now) (Done (used now))) .1) ≡ length d)
+      go (suc f) e = (h, refl)
+      go zero e =
+          let k = h .follows .held in
+          let z = same-fault d gs (h .follows) g ∙ e in
+          let q = given-append gs (g ∷ []) in (
+            record {
+              follows = held-follows _ (gs ++ (g ∷ [])) (rw q (held-more d now g k y z)) (rw q (written-left d now g k y z (h .follows .bytes)));
+              added = all-more gs g (addCommandLine []) (λ (x : Addition). AdditionTyped x × (additionFault x ≡ 0)) (h .added) (y, sound d now g k y z);
+            },
+            left-length d now g k y z,
+          )
+
+pub step-follows : (d : List ℕ) (gs : List Addition) (k : Call) → Keeps d gs → Typed k → Keeps (run k d .1) (listAfter (roomOf d) k gs) × (length (run k d .1) ≡ length d)
+unfolding run
+step-follows d gs begin h y = begin-follows d (long d gs (h .follows))
+step-follows d gs (add g) h y = add-follows d gs h g y
+step-follows d gs read h y = (h, refl)
+step-follows d gs (askUsed fewest) h y = (h, refl)
+step-follows d gs (step k) h y = (h, refl)
+step-follows d gs (askAttribute i) h y = (h, refl)
+step-follows d gs (askStart i) h y = (h, refl)
+step-follows d gs (askPart i) h y = (h, refl)
+step-follows d gs (copyMap out) h y = (h, refl)
+step-follows d gs askLine h y = (h, refl)
+step-follows d gs locateLine h y = (h, refl)
+step-follows d gs (askModule a) h y = (h, refl)
+
+-- ---- calls in a row
+pub same-room : (d b : List ℕ) → length d ≡ length b → roomOf d ≡ roomOf b
+same-room d b e = ap (λ (n : ℕ). min n 65536) e
+
+pub follows-all : (ks : List Call) (d : List ℕ) (gs : List Addition) → Keeps d gs → AllTyped ks → Keeps (after ks d) (listAfterAll (roomOf d) ks gs) × (length (after ks d) ≡ length d)
+unfolding after listAfterAll AllTyped
+follows-all [] d gs h y = (h, refl)
+follows-all (k ∷ ks) d gs h y =
+    let s = step-follows d gs k h (y .0) in
+    let r = follows-all ks (run k d .1) (listAfter (roomOf d) k gs) (s .0) (y .1) in
+    (subst (λ (n : ℕ). Keeps (after ks (run k d .1)) (listAfterAll n ks (listAfter (roomOf d) k gs))) (same-room (run k d .1) d (s .1)) (r .0), r .1 ∙ s .1)

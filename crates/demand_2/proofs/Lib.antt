@@ -1,0 +1,9 @@
+pub mod Additions
+pub mod Appending
+pub mod Following
+pub mod Replies
+pub mod Records
+pub mod ReadingBack
+pub mod Rebuilding
+pub mod Demand2
+pub mod Witness

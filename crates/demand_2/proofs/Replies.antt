@@ -1,0 +1,221 @@
+-- Every call answers by the list, where the buffer follows it.
+-- Assumes nothing.
+use Prim.Native.Nat.{ℕ, zero, suc, _+_, _*_, _%_, _≤_, _<_}
+use mathlib.Core.Path.{_≡_, refl, sym, ap, ap₂, _∙_}
+use mathlib.Core.Bool.{Bool, true, false, _&&_}
+use mathlib.Core.List.{List, []}
+use native.Mathlib.Omega.{arith}
+use native.Mathlib.Numerals.{add-one}
+use lib.ListN.{take}
+use lib.Seq.{getD-take}
+use lib.Dec.{leb, ltb, eqb}
+use borrow.Author.Tests.{leb-true, leb-false, ltb-true, ltb-false, eqb-true, le-leb}
+use Rattle.words.specs.Words.{numberAt, u32At}
+use Rattle.byte_layout.specs.Stored.{bytesAt}
+use Rattle.ultra_format.specs.Refusals.{MISSING}
+use Rattle.ultra_format.specs.Answers.{refused, orRefused}
+use Rattle.ultra_format.specs.Contexts.{Context, count, sizeAt, used, total}
+use Rattle.ultra_format.specs.Layouts.{roomOf, written}
+use Rattle.ultra_format.specs.Rules.{Meets}
+use Rattle.ultra_format.specs.Decoding.{pick, start, storedCount}
+use Rattle.ultra_format.specs.Additions.{Addition}
+use Rattle.ultra_format.specs.declared.Answer.{Answer}
+use Rattle.ultra_format.specs.declared.Answer.the-variants.{Done}
+use Rattle.ultra_format.proofs.Chains.{both-hold}
+use Rattle.ultra_format.proofs.Decoded.{starts}
+use Rattle.ultra_reading.specs.Reading.{headFault, boundsFault, usedLength, versionOf, withVersion, readingOf}
+use Rattle.ultra_reading.specs.Stepping.{cursorFault, stepRefused, cursorAt, headerAt, stepOf}
+use Rattle.ultra_reading.specs.declared.cursor.Cursor.{Cursor}
+use Rattle.ultra_reading.specs.declared.cursor.Step.{Step}
+use Rattle.ultra_reading.specs.declared.cursor.Step.the-variants as stepping
+use Rattle.ultra_reading.proofs.HeadLaws.{HeadHolds, accepted-head, stop-missing, head-passes, head-refuses}
+use Rattle.ultra_reading.proofs.BoundsLaws.{bounds-pass}
+use Rattle.ultra_reading.proofs.StepLaws.{only-bounds, step-next}
+use Rattle.ultra_acceptance.specs.Acceptance.{HeldBy}
+use Rattle.ultra_acceptance.proofs.Walked.{Accepted, accepted}
+use Rattle.ultra_acceptance.proofs.Acceptance.{complete, rehoused, held-reading}
+use Rattle.ultra_questions.specs.Parts.{noPart}
+use Rattle.ultra_questions.specs.ByContext.{ByContext}
+use Rattle.ultra_questions.specs.QuestionRefusals.{PassesOn}
+use Rattle.ultra_questions.specs.declared.attributes.AttributeAnswer.{AttributeAnswer}
+use Rattle.ultra_questions.specs.AttributeQuestion.{attributeAnswer}
+use Rattle.ultra_questions.proofs.ByContext.{questions-by-context}
+use Rattle.ultra_questions.proofs.QuestionRefusals.{refusals-pass-on}
+use Rattle.ultra_building.specs.Building.{addedAt}
+use Rattle.demand_3.specs.Demand3.{ReadingIs}
+use Rattle.demand_3.proofs.Demand3.{demand-3}
+use Rattle.demand_2.specs.Calls.{Call, lentPart, run}
+use Rattle.demand_2.specs.Calls.{Call.begin, Call.add, Call.read, Call.askUsed, Call.step, Call.askAttribute, Call.askStart, Call.askPart, Call.copyMap, Call.askLine, Call.locateLine, Call.askModule}
+use Rattle.demand_2.specs.Calls.{Reply.answer, Reply.reading, Reply.stepped, Reply.attribute, Reply.located, Reply.lent, Reply.copied}
+use Rattle.demand_2.specs.Model.{contextGiven, refusalOf, addAnswer, tooFew, stepWithin, stepIn, partIn, replyTo, attributesGiven}
+use Rattle.demand_2.specs.Demand2.{Follows, Undetermined, StepsThrough}
+use Rattle.demand_2.proofs.Appending.{says-type}
+use Rattle.demand_2.proofs.Following.{says-given, begun-is, long, added-is, used-more}
+
+-- the number in the front of a list
+number-front : (d : List ℕ) (u o k : ℕ) → o + k ≤ u → numberAt d o k ≡ numberAt (take u d) o k
+unfolding numberAt
+number-front d u o zero h = refl
+number-front d u o (suc k) h = ap₂ (λ (x n : ℕ). x + 256 * n) (sym (getD-take u d o 0 (omega arith))) (number-front d u (o + 1) k (omega arith))
+
+-- by whether the count is at least `fewest`
+by-count : {X : Type 0} (c : Context) (fewest : ℕ) {r x y : X} → (fewest ≤ count c → r ≡ x) → (count c < fewest → r ≡ y) → r ≡ pick (leb fewest (count c)) x y
+by-count c fewest {r} {x} {y} p q = go (leb fewest (count c)) refl
+  where
+    go : (t : Bool) → leb fewest (count c) ≡ t → r ≡ pick t x y
+    go true e = p (leb-true fewest (count c) e)
+    go false e = q (leb-false fewest (count c) e)
+
+-- what a step answers behind the tests of the head and the index
+abbrev stepFrom : List ℕ → Cursor → Step
+stepFrom b k =
+    stepRefused (cursorFault b (k .offset)) (k .offset) (stepping.Attribute (headerAt b (k .offset)) (cursorAt (k .index + 1) (k .offset + u32At b (k .offset + 4))))
+
+module _ (d : List ℕ) (gs : List Addition) (f : Follows d gs) where
+  abbrev now : Context
+  now = contextGiven gs
+
+  -- ---- with `fewest` attributes or more, and with fewer
+  enough-meets : (fewest : ℕ) → fewest ≤ count now → Meets fewest (roomOf d) now
+  enough-meets fewest l = let m = f .held .0 in rehoused m l (m .within)
+
+  counts : storedCount d ≡ count now
+  counts = says-given d gs f .count
+
+  head : HeadHolds 0 d
+  head = accepted-head 0 d (used now) (f .usedIs)
+
+  head-enough : (fewest : ℕ) → fewest ≤ count now → headFault fewest d ≡ 0
+  head-enough fewest l = sym (head-passes fewest d (head .room) (head .major) (head .most) (omega (arith, counts)))
+
+  head-missing : (fewest : ℕ) → count now < fewest → headFault fewest d ≡ MISSING
+  head-missing fewest l = sym (stop-missing fewest d (head .room) (head .major) (head .most) (omega (arith, counts)))
+
+  missing : (fewest : ℕ) → count now < fewest → usedLength fewest d ≡ tooFew
+  missing fewest l =
+      let e = head-missing fewest l in
+      sym (head-refuses fewest d (λ z. omega arith)) ∙ ap (λ (n : ℕ). refused n 0) e
+
+  pub held-two : 2 ≤ count now → HeldBy 2 d now
+  held-two l = (enough-meets 2 l, f .held .1)
+
+  asked : 2 ≤ count now → ByContext d now
+  asked l = questions-by-context d now (held-two l)
+
+  unasked : count now < 2 → PassesOn d tooFew
+  unasked l = refusals-pass-on d MISSING 0 (missing 2 l)
+
+  -- ---- parts
+  part-given : 2 ≤ count now → (i : ℕ) → lentPart d (attributeAnswer d i .part) ≡ partIn now i
+  unfolding bytesAt
+  part-given l i = go (ltb i (count now)) refl
+    where
+      r : ReadingIs d now
+      r = demand-3 .reads d now (held-two l)
+
+      go : (t : Bool) → ltb i (count now) ≡ t → lentPart d (attributeAnswer d i .part) ≡ partIn now i
+      go true e = let k = ltb-true i (count now) e in rw e (ap₂ lent (ap (λ (a : AttributeAnswer). a .part) (r .each i k)) (r .parts i k))
+      go false e = rw (e, r .past i (ltb-false i (count now) e))
+
+  no-part : count now < 2 → (i : ℕ) → lentPart d (attributeAnswer d i .part) ≡ lent noPart []
+  unfolding bytesAt
+  no-part l i = rw (unasked l .attributes i)
+
+  no-line : count now < 2 → run askLine d .0 ≡ lent noPart []
+  unfolding run bytesAt
+  no-line l = rw (unasked l .line)
+
+  reading-few : count now < 2 → readingOf d ≡ withVersion (versionOf d) tooFew
+  unfolding readingOf
+  reading-few l = rw (missing 2 l)
+
+  -- ---- steps
+  accepts : Accepted 0 d (used now)
+  accepts = accepted 0 d (used now) (f .usedIs)
+
+  start-eights : (i : ℕ) → i ≤ storedCount d → start d i % 8 ≡ 0
+  unfolding start
+  start-eights zero l = refl
+  start-eights (suc i) l = omega (arith, start-eights i (omega arith), accepts .each i l .bounds .eights)
+
+  -- where a step's answer is determined, its cursor lies within the list or falls to a test that looks at no byte
+  step-within : (k : Cursor) → 2 ≤ count now → k .index < count now → (Undetermined (roomOf d) now (step k) → ⊥)
+      → stepFrom d k ≡ stepWithin (roomOf d) (written now) k
+  unfolding cursorFault boundsFault
+  step-within k two l n = go (leb 8 (k .offset) && eqb (k .offset % 8) 0) (leb (k .offset + 8) (roomOf d)) refl refl
+    where
+      front : (o : ℕ) → o + 4 ≤ used now → u32At d o ≡ u32At (written now) o
+      front o h = number-front d (used now) o 4 h ∙ ap (λ (w : List ℕ). u32At w o) (f .bytes)
+
+      go : (t u : Bool) → (leb 8 (k .offset) && eqb (k .offset % 8) 0) ≡ t → leb (k .offset + 8) (roomOf d) ≡ u
+          → stepFrom d k ≡ stepWithin (roomOf d) (written now) k
+      go false u p q = rw p
+      go true false p q = rw (p, q)
+      go true true p q =
+          let e = eqb-true (k .offset % 8) 0 (both-hold (leb 8 (k .offset)) _ p .1) in
+          let r = leb-true (k .offset + 8) (roomOf d) q in
+          let h : k .offset < used now = below (k .offset) (used now) (λ h. n (k, refl, two, l, h, r, e)) in
+          let z = start-eights (storedCount d) (omega arith) in
+          let w : k .offset + 8 ≤ used now = omega (arith, accepts .used) in
+          rw (front (k .offset) (omega arith), front (k .offset + 4) (omega arith))
+        where
+          below : (m n : ℕ) → (n ≤ m → ⊥) → m < n
+          below m n h = omega arith
+
+  step-given : (k : Cursor) → (Undetermined (roomOf d) now (step k) → ⊥) → stepOf d k ≡ stepIn (roomOf d) now k
+  unfolding stepOf
+  step-given k n = by-count now 2 (λ l. rw (head-enough 2 l, counts) (go l (leb (count now) (k .index)) refl)) (λ l. rw (head-missing 2 l))
+    where
+      go : 2 ≤ count now → (t : Bool) → leb (count now) (k .index) ≡ t
+          → pick t stepping.End (stepFrom d k) ≡ pick t stepping.End (stepWithin (roomOf d) (written now) k)
+      go two true e = refl
+      go two false e = step-within k two (leb-false (count now) (k .index) e) n
+
+  -- at the list's own cursors
+  step-stored : 2 ≤ count now → (i : ℕ) → i < storedCount d → stepOf d (cursorAt i (start d i)) ≡ stepping.Attribute (headerAt d (start d i)) (cursorAt (i + 1) (start d (i + 1)))
+  unfolding start
+  step-stored l i k =
+      let p = accepts .each i k .bounds in
+      let w = start-eights i (omega arith) in
+      let s = only-bounds d (start d i) (start-least i) w in
+      let q = bounds-pass d (roomOf d) (start d i) (p .header) (p .least) (p .eights) (p .within) (p .typed) in
+      let e : start d (i + 1) ≡ start d i + u32At d (start d i + 4) = ap (start d) (add-one i) in
+      rw e (sym (step-next d (cursorAt i (start d i)) (head-enough 2 l) k (sym (q ∙ s))))
+    where
+      start-least : (i : ℕ) → 8 ≤ start d i
+      start-least zero = omega arith
+      start-least (suc i) = omega (arith, start-least i)
+
+  pub steps-through : 2 ≤ count now → StepsThrough d now
+  unfolding run stepOf
+  steps-through l =
+      record {
+        each = λ i h.
+            let s = says-given d gs f in
+            let k : i < storedCount d = omega (arith, counts) in
+            let here = starts d now s i (omega arith) in
+            let next = starts d now s (i + 1) (omega arith) in
+            let size : u32At d (start d i + 4) ≡ sizeAt now i = rw here (s .stored i h .size) in
+            ap stepped (rw (← here, ← next, ← (says-type d now s i h), ← size) (step-stored l i k));
+        past = λ i o h. ap stepped (rw (head-enough 2 l, counts, le-leb (count now) i h));
+      }
+
+  -- ---- every call
+  add-reply : (g : Addition) (n : ℕ) → addedAt d g (orRefused n (used now) (Done (used now))) .0 ≡ addAnswer n gs g
+  add-reply g zero = ap Done (sym (used-more gs g))
+  add-reply g (suc n) = refl
+
+  pub replies-by-list : (k : Call) → (Undetermined (roomOf d) now k → ⊥) → run k d .0 ≡ replyTo (roomOf d) k gs
+  unfolding run replyTo total attributesGiven
+  replies-by-list begin n = ap (λ (r : Answer × List ℕ). answer (r .0)) (begun-is d (long d gs f))
+  replies-by-list (add g) n = ap (λ (r : Answer × List ℕ). answer (r .0)) (added-is d gs f g) ∙ ap answer (add-reply g (refusalOf (roomOf d) gs g))
+  replies-by-list read n = ap reading (by-count now 2 (λ l. held-reading d now (held-two l)) reading-few)
+  replies-by-list (askUsed fewest) n = ap answer (by-count now fewest (λ l. complete fewest d now (enough-meets fewest l) (f .held .1)) (missing fewest))
+  replies-by-list (step k) n = ap stepped (step-given k n)
+  replies-by-list (askAttribute i) n = ap attribute (by-count now 2 (λ l. asked l .attributes i) (λ l. unasked l .attributes i))
+  replies-by-list (askStart i) n = ap answer (by-count now 2 (λ l. asked l .starts i) (λ l. unasked l .starts i))
+  replies-by-list (askPart i) n = by-count now 2 (λ l. part-given l i) (λ l. no-part l i)
+  replies-by-list (copyMap out) n = ap copied (by-count now 2 (λ l. asked l .maps out) (λ l. unasked l .maps out))
+  replies-by-list askLine n = by-count now 2 (λ l. ap₂ lent (asked l .line) (asked l .text)) no-line
+  replies-by-list locateLine n = ap located (by-count now 2 (λ l. asked l .line) (λ l. unasked l .line))
+  replies-by-list (askModule a) n = ap answer (by-count now 2 (λ l. asked l .modules a) (λ l. unasked l .modules a))

@@ -1,0 +1,114 @@
+-- The model of demand 2: what each call does to a list and answers by it. The list has what was given to the adds, in their order, and
+-- nothing else is kept; the room of the buffer is a constant.
+-- Assumes nothing.
+use Prim.Native.Nat.{ℕ, zero, suc, _+_, _%_}
+use mathlib.Core.Bool.{_&&_}
+use mathlib.Core.List.{List, [], _∷_, _++_}
+use lib.Dec.{leb, ltb, eqb}
+use Rattle.words.specs.Words.{u32At}
+use Rattle.ultra_format.specs.Refusals.{unless, MISSING, HEADER}
+use Rattle.ultra_format.specs.Answers.{refusal, refused}
+use Rattle.ultra_format.specs.Contexts.{Attribute, Context, count, attributeAt, bodyAt, startIn, used}
+use Rattle.ultra_format.specs.Layouts.{written}
+use Rattle.ultra_format.specs.Decoding.{pick}
+use Rattle.ultra_format.specs.Additions.{Addition, typeGiven, sizeGiven, attributeGiven, additionFault}
+use Rattle.ultra_format.specs.declared.Answer.{Answer}
+use Rattle.ultra_format.specs.declared.Answer.the-variants.{Done, Refused}
+use Rattle.ultra_reading.specs.Reading.{boundsFault}
+use Rattle.ultra_reading.specs.Stepping.{stepRefused, cursorAt, headerAt}
+use Rattle.ultra_reading.specs.declared.Reading.the-variants as readings
+use Rattle.ultra_reading.specs.declared.cursor.Cursor.{Cursor}
+use Rattle.ultra_reading.specs.declared.cursor.Step.{Step}
+use Rattle.ultra_reading.specs.declared.cursor.Step.the-variants as stepping
+use Rattle.ultra_acceptance.specs.Acceptance.{versionIn}
+use Rattle.ultra_questions.specs.Parts.{noPart, bodyPart, partBytes}
+use Rattle.ultra_questions.specs.AttributeQuestion.{unanswered, startOrCount, withMembers}
+use Rattle.ultra_questions.specs.MapQuestion.{mapIn}
+use Rattle.ultra_questions.specs.CommandLineQuestion.{commandLineIn, textIn}
+use Rattle.ultra_questions.specs.ModuleQuestion.{moduleIn}
+use Rattle.ultra_building.specs.Building.{placementFault}
+use Rattle.demand_2.specs.Calls.{Call, Reply}
+use Rattle.demand_2.specs.Calls.{Call.begin, Call.add, Call.read, Call.askUsed, Call.step, Call.askAttribute, Call.askStart, Call.askPart, Call.copyMap, Call.askLine, Call.locateLine, Call.askModule}
+use Rattle.demand_2.specs.Calls.{Reply.answer, Reply.reading, Reply.stepped, Reply.attribute, Reply.located, Reply.lent, Reply.copied}
+
+-- ---- the context that the list is
+unfoldable pub attributesGiven : List Addition → List Attribute
+attributesGiven [] = []
+attributesGiven (g ∷ gs) = attributeGiven g ∷ attributesGiven gs
+
+abbrev pub contextGiven : List Addition → Context
+contextGiven gs = record { major = 1; minor = 0; attributes = attributesGiven gs }
+
+-- the types of the list, the last first, in front of `before`
+unfoldable pub typesBehind : List ℕ → List Addition → List ℕ
+typesBehind before [] = before
+typesBehind before (g ∷ gs) = typesBehind (typeGiven g ∷ before) gs
+
+-- ---- adding: "adding acts as one more attribute at the end of a list or is refused"
+-- the first of 17, 9 to 16 and 18, or 0
+abbrev pub refusalOf : ℕ → List Addition → Addition → ℕ
+refusalOf room gs g = placementFault (typesBehind [] gs) room (used (contextGiven gs)) (typeGiven g) (additionFault g) (sizeGiven g)
+
+-- one more, or the same list
+abbrev pub appended : ℕ → List Addition → Addition → List Addition
+appended zero gs g = gs ++ (g ∷ [])
+appended (suc n) gs g = gs
+
+-- the used length of the list with it, or the refusal, "with the used length as offset"
+abbrev pub addAnswer : ℕ → List Addition → Addition → Answer
+addAnswer zero gs g = Done (used (contextGiven (gs ++ (g ∷ []))))
+addAnswer (suc n) gs g = refused (suc n) (used (contextGiven gs))
+
+-- ---- what a call does to the list
+abbrev pub listAfter : ℕ → Call → List Addition → List Addition
+listAfter room begin gs = []
+listAfter room (add g) gs = appended (refusalOf room gs g) gs g
+listAfter room read gs = gs
+listAfter room (askUsed fewest) gs = gs
+listAfter room (step k) gs = gs
+listAfter room (askAttribute i) gs = gs
+listAfter room (askStart i) gs = gs
+listAfter room (askPart i) gs = gs
+listAfter room (copyMap out) gs = gs
+listAfter room askLine gs = gs
+listAfter room locateLine gs = gs
+listAfter room (askModule a) gs = gs
+
+unfoldable pub listAfterAll : ℕ → List Call → List Addition → List Addition
+listAfterAll room [] gs = gs
+listAfterAll room (k ∷ ks) gs = listAfterAll room ks (listAfter room k gs)
+
+-- ---- what a call answers by the list
+-- "count below 2", with offset 0; with two or more what the context says
+abbrev pub ifTwo : {X : Type 0} → Context → X → X → X
+ifTwo c x missing = pick (leb 2 (count c)) x missing
+
+abbrev pub tooFew : Answer
+tooFew = refused MISSING 0
+
+-- a step from a cursor within the list: the tests of 5 to 8 on the bytes that the list is written in
+abbrev pub stepWithin : ℕ → List ℕ → Cursor → Step
+stepWithin room w k =
+    stepRefused (unless (leb 8 (k .offset) && eqb (k .offset % 8) 0) HEADER (boundsFault w room (k .offset))) (k .offset)
+    (stepping.Attribute (headerAt w (k .offset)) (cursorAt (k .index + 1) (k .offset + u32At w (k .offset + 4))))
+
+abbrev pub stepIn : ℕ → Context → Cursor → Step
+stepIn room c k = ifTwo c (pick (leb (count c) (k .index)) stepping.End (stepWithin room (written c) k)) (stepping.Refused (refusal MISSING 0))
+
+-- the part of the attribute at an index
+abbrev pub partIn : Context → ℕ → Reply
+partIn c i = pick (ltb i (count c)) (lent (bodyPart (startIn (c .attributes) i) (bodyAt c i)) (partBytes (bodyAt c i))) (lent noPart [])
+
+unfoldable pub replyTo : ℕ → Call → List Addition → Reply
+replyTo room begin gs = answer (Done (used (contextGiven [])))
+replyTo room (add g) gs = answer (addAnswer (refusalOf room gs g) gs g)
+replyTo room read gs = let c = contextGiven gs in reading (ifTwo c (readings.Accepted (versionIn c) (used c)) (readings.Refused (refusal MISSING 0)))
+replyTo room (askUsed fewest) gs = let c = contextGiven gs in answer (pick (leb fewest (count c)) (Done (used c)) tooFew)
+replyTo room (step k) gs = stepped (stepIn room (contextGiven gs) k)
+replyTo room (askAttribute i) gs = let c = contextGiven gs in attribute (ifTwo c (withMembers (attributeAt c i) (startOrCount c i)) (unanswered tooFew))
+replyTo room (askStart i) gs = let c = contextGiven gs in answer (ifTwo c (startOrCount c i) tooFew)
+replyTo room (askPart i) gs = let c = contextGiven gs in ifTwo c (partIn c i) (lent noPart [])
+replyTo room (copyMap out) gs = let c = contextGiven gs in copied (ifTwo c (mapIn c out) (tooFew, out))
+replyTo room askLine gs = let c = contextGiven gs in ifTwo c (lent (commandLineIn c) (textIn c)) (lent noPart [])
+replyTo room locateLine gs = let c = contextGiven gs in located (ifTwo c (commandLineIn c) noPart)
+replyTo room (askModule a) gs = let c = contextGiven gs in answer (ifTwo c (moduleIn c a) tooFew)
