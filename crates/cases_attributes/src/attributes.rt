@@ -1,35 +1,11 @@
 // The attribute at an index.
 use crate::context;
-use crate::members;
 use cases_shared::build;
+use cases_shared::members;
 use cases_shared::show;
 use ultra_format::Answer;
-use ultra_format::Records;
 use ultra_questions::AttributeAnswer;
 use ultra_questions::Part;
-
-// The members of the attribute's own record; of types 3, 5 and 7 there is none.
-fn own_record(kind: u32, records: Records) {
-    match kind {
-        1 => {
-            let platform = records.platform;
-            members::platform(platform)
-        }
-        2 => {
-            let kernel = records.kernel;
-            members::kernel(kernel)
-        }
-        4 => {
-            let module = records.module;
-            members::module(module)
-        }
-        6 => {
-            let framebuffer = records.framebuffer;
-            members::framebuffer(framebuffer)
-        }
-        _ => {}
-    }
-}
 
 // A map's or a command line's part; of other types that there is none, wherever it would lie.
 fn part(kind: u32, part: Part, bytes: &[u8]) {
@@ -53,12 +29,9 @@ fn part(kind: u32, part: Part, bytes: &[u8]) {
 
 fn found(answer: AttributeAnswer, bytes: &[u8]) {
     let header = answer.header;
-    show::number(b", type ", header.kind as u64);
-    show::number(b" at ", header.start as u64);
-    show::number(b" size ", header.size as u64);
-    show::words(b"\n");
+    show::header(header);
     let records = answer.records;
-    own_record(header.kind, records);
+    members::own(header.kind, records);
     let named = answer.part;
     part(header.kind, named, bytes);
 }

@@ -2,7 +2,6 @@
 // that "look right and are not": "Reading dtb from a 56-byte platform attribute, out of the kernel attribute behind it."
 mod attributes;
 mod context;
-mod members;
 
 fn main() {
     attributes::every_type();

@@ -2,20 +2,10 @@
 use cases_shared::build;
 use cases_shared::show;
 
-fn blank(number: u64) {
-    show::number(b" ", number);
-}
-
-fn numbers(out: [u64; 8]) {
+fn output(out: &[u64; 8]) {
     show::words(b", output");
-    blank(out[0]);
-    blank(out[1]);
-    blank(out[2]);
-    blank(out[3]);
-    blank(out[4]);
-    blank(out[5]);
-    blank(out[6]);
-    blank(out[7]);
+    show::numbers(out);
+    show::words(b"\n");
 }
 
 // Lends the first `length` of eight sevens, and shows all eight afterwards.
@@ -25,8 +15,7 @@ fn copy(label: &[u8], buf: &[u8; 1024], length: usize) {
     if length <= 8 {
         show::answer(ultra_questions::copy_map(buf, &mut out[0..length]));
     }
-    numbers(out);
-    show::words(b"\n");
+    output(&out);
 }
 
 // A map of two ranges at 432, the second of a type whose low 32 bits are 0.

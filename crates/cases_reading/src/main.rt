@@ -1,8 +1,7 @@
 // Runs document 01's cases that are not marked *, as far as they concern reading, and those of the readings that "look right and are
 // not" which an answer of reading can show: all but dtb from a 56-byte platform, which cases_attributes runs.
-mod show;
-
 use cases_shared::build;
+use cases_shared::show;
 use ultra_reading::Cursor;
 
 // Reads the first `length` bytes.

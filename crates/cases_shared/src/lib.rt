@@ -1,3 +1,5 @@
-// What the programs that run cases share: contexts by hand, and words for answers.
+// What the programs that run cases share: contexts by hand, records to add, and words for answers.
 pub mod build;
+pub mod given;
+pub mod members;
 pub mod show;

@@ -4,6 +4,9 @@ ghost use lib.ListN.{length};
 use libc::STDOUT_FILENO;
 use ultra_format::Answer;
 use ultra_format::Refusal;
+use ultra_reading::Header;
+use ultra_reading::Reading;
+use ultra_reading::Step;
 
 // The bytes as they are.
 pub fn words(bytes: &[u8]) {
@@ -27,6 +30,45 @@ pub fn answer(answer: Answer) {
     }
 }
 
+// What reading answers, on a line of its own.
+pub fn reading(label: &[u8], answer: Reading) {
+    words(label);
+    match answer {
+        Reading::Accepted(version, used) => {
+            number(b": version ", version.major as u64);
+            number(b".", version.minor as u64);
+            number(b", used ", used as u64);
+        }
+        Reading::Refused(r) => refusal(r),
+    }
+    words(b"\n");
+}
+
+// What a step answers, the same.
+pub fn step(label: &[u8], answer: Step) {
+    words(label);
+    match answer {
+        Step::Attribute(header, next) => {
+            number(b": type ", header.kind as u64);
+            number(b" at ", header.start as u64);
+            number(b" size ", header.size as u64);
+            number(b", next ", next.index as u64);
+            number(b" at ", next.offset as u64);
+        }
+        Step::End => words(b": end"),
+        Step::Refused(r) => refusal(r),
+    }
+    words(b"\n");
+}
+
+// Where an attribute is, behind its answer.
+pub fn header(header: Header) {
+    number(b", type ", header.kind as u64);
+    number(b" at ", header.start as u64);
+    number(b" size ", header.size as u64);
+    words(b"\n");
+}
+
 fn byte(byte: u8) {
     number(b" ", byte as u64);
 }
@@ -38,6 +80,56 @@ pub fn bytes(bytes: &[u8]) {
         byte(bytes[i]);
         i += 1;
     }
+}
+
+// Each number, behind a blank.
+pub fn numbers(numbers: &[u64]) {
+    let mut i = 0;
+    while i < numbers.len() {
+        number(b" ", numbers[i]);
+        i += 1;
+    }
+}
+
+// The offset, before the first byte of a row.
+fn row(at: usize) {
+    if at % 16 == 0 {
+        number(b"\n  ", at as u64);
+        words(b":");
+    }
+}
+
+// The same in rows of sixteen, each on a line of its own with the offset in front.
+pub fn rows(bytes: &[u8]) {
+    let mut i = 0;
+    while i < bytes.len() {
+        row(i);
+        byte(bytes[i]);
+        i += 1;
+    }
+}
+
+// 1 for two bytes that differ.
+fn difference(left: u8, right: u8) -> usize
+    ensures { λ r. ⌜ r ≤ 1 ⌝ }
+{
+    if left == right {
+        return 0;
+    }
+    1
+}
+
+// How many bytes at the same place differ.
+pub fn differences(left: &[u8], right: &[u8]) -> usize
+    requires { ⌜ length (now left) ≤ length (now right) ⌝ }
+{
+    let mut n = 0;
+    let mut i = 0;
+    while i < left.len() {
+        n += difference(left[i], right[i]);
+        i += 1;
+    }
+    n
 }
 
 // A byte of a field: as it is in the text, `!` if it is not zero although a zero came before. Answers how many zeros there are so far.

@@ -1,11 +1,12 @@
 // The members of a record, line by line.
-use cases_shared::show;
+use crate::show;
 use ultra_format::FramebufferRecord;
 use ultra_format::KernelRecord;
 use ultra_format::ModuleRecord;
 use ultra_format::OptionalU8;
 use ultra_format::OptionalU64;
 use ultra_format::PlatformRecord;
+use ultra_format::Records;
 
 fn optional_u64(before: &[u8], member: OptionalU64) {
     show::words(before);
@@ -95,4 +96,27 @@ pub fn framebuffer(record: FramebufferRecord) {
     show::number(b", format ", record.format as u64);
     show::number(b", address ", record.address);
     show::words(b"\n");
+}
+
+// The members of the attribute's own record; of types 3, 5 and 7 there is none.
+pub fn own(kind: u32, records: Records) {
+    match kind {
+        1 => {
+            let record = records.platform;
+            platform(record)
+        }
+        2 => {
+            let record = records.kernel;
+            kernel(record)
+        }
+        4 => {
+            let record = records.module;
+            module(record)
+        }
+        6 => {
+            let record = records.framebuffer;
+            framebuffer(record)
+        }
+        _ => {}
+    }
 }

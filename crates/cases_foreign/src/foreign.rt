@@ -1,0 +1,79 @@
+// Contexts by hand that no add writes.
+use cases_shared::build;
+use cases_shared::given;
+use cases_shared::show;
+
+fn part(label: &[u8], differences: usize) {
+    show::number(label, differences as u64);
+    show::words(b"\n");
+}
+
+// A platform without late members, alone.
+fn short_platform() -> [u8; 1024] {
+    let mut buf = [0u8; 1024];
+    build::head(&mut buf, 1);
+    build::platform_and_kernel(&mut buf, 56);
+    buf
+}
+
+fn behind_a_short_platform() {
+    let before = short_platform();
+    let mut after = before;
+    let record = given::kernel();
+    show::words(b"kernel behind a platform of 56 bytes");
+    show::answer(ultra_building::add_kernel(&mut after, record));
+    part(
+        b"\n  bytes of the platform that changed: ",
+        show::differences(&before[8..64], &after[8..64]),
+    );
+    show::reading(
+        b"kernel behind a platform of 56 bytes, read",
+        ultra_reading::read(&after),
+    );
+}
+
+// Version 7.9, a platform of 96 bytes and a kernel of 344 with silent bytes that are not zero, and an attribute of type 7.
+fn context() -> [u8; 1024] {
+    let mut buf = [0u8; 1024];
+    build::put_eight(&mut buf, 0, b"\x07\x09\xa5\xa5\x03\x00\x00\x00");
+    build::platform_and_kernel(&mut buf, 96);
+    build::put_eight(&mut buf, 72, b"\x05\xa5\xa5\xa5\xa5\xa5\xa5\xa5");
+    build::put_eight(&mut buf, 96, b"\xa5\xa5\xa5\xa5\xa5\xa5\xa5\xa5");
+    build::header(&mut buf, 104, 2, 344);
+    build::put_eight(&mut buf, 184, b"/\0\xa5\xa5\xa5\xa5\xa5\xa5");
+    build::put_eight(&mut buf, 440, b"\xa5\xa5\xa5\xa5\xa5\xa5\xa5\xa5");
+    build::header(&mut buf, 448, 7, 16);
+    build::put_eight(&mut buf, 456, b"\xa5\xa5\xa5\xa5\xa5\xa5\xa5\xa5");
+    buf
+}
+
+fn compare(before: [u8; 1024], after: [u8; 1024]) {
+    show::words(b"\n  head");
+    show::bytes(&after[0..8]);
+    part(
+        b"\n  bytes of the attributes before that changed: ",
+        show::differences(&before[8..464], &after[8..464]),
+    );
+    part(
+        b"  bytes behind that changed: ",
+        show::differences(&before[560..1024], &after[560..1024]),
+    );
+}
+
+fn kept() {
+    let before = context();
+    let mut after = before;
+    let record = given::module();
+    show::words(b"module to a foreign context");
+    show::answer(ultra_building::add_module(&mut after, record));
+    compare(before, after);
+    show::reading(
+        b"module to a foreign context, read",
+        ultra_reading::read(&after),
+    );
+}
+
+pub fn all() {
+    behind_a_short_platform();
+    kept();
+}
