@@ -19,7 +19,7 @@ fn copy_numbers(bytes: &[u8], at: usize, n: usize, out: &mut [u64])
     }
 }
 
-// Copies the map's entries, "three to an entry", and answers how many there are; [19] where there is no map, then [18] where `out` is
+// Copies the map's entries, "three to an entry", and answers how many there are; 19 where there is no map, then 18 where `out` is
 // too short.
 pub fn copy_map(buf: &[u8], out: &mut [u64]) -> Answer
     ensures { λ r. ⌜ (r, now (out .exit)) ≡ mapCopied (now (buf .entry)) (now (out .entry)) ⌝ }
