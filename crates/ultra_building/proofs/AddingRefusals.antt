@@ -42,7 +42,7 @@ use Rattle.ultra_acceptance.proofs.Rows.{Misplaced, Earlier, Repeated, Parted, 
 use Rattle.ultra_building.specs.Building.{placementFault, placement, added, addedAt}
 use Rattle.ultra_building.specs.AddingRefusals.{Occurs, Incomplete, AdditionBreaks, rank, FirstBroken, AddRefused, AddingRefuses, AddingSucceeds}
 use Rattle.ultra_building.specs.AddingRefusals.{AdditionBreaks.full, AdditionBreaks.first, AdditionBreaks.second, AdditionBreaks.later, AdditionBreaks.repeat, AdditionBreaks.split}
-use Rattle.ultra_building.specs.AddingRefusals.{AdditionBreaks.crooked, AdditionBreaks.incomplete, AdditionBreaks.value, AdditionBreaks.text, AdditionBreaks.range, AdditionBreaks.order, AdditionBreaks.past}
+use Rattle.ultra_building.specs.AddingRefusals.{AdditionBreaks.leftOver, AdditionBreaks.incomplete, AdditionBreaks.value, AdditionBreaks.text, AdditionBreaks.range, AdditionBreaks.order, AdditionBreaks.past}
 use Rattle.ultra_building.specs.AddingRefusals.{AddRefused.reading, AddRefused.adding}
 use Rattle.ultra_building.proofs.Adding.{faultOn, added-held}
 
@@ -69,13 +69,13 @@ is-incomplete r = go (r .«higher_half_base») (r .depth) (r .dtb) (r .smbios)
 
 -- ---- 12, and which numbers there are
 module _ (room : ℕ) (c : Context) where
-  is-crooked : (g : Addition) → formed g ≡ false → AdditionBreaks room c g FORM
-  is-crooked (addPlatform r) e = absurd (true≢false e)
-  is-crooked (addKernel r) e = absurd (true≢false e)
-  is-crooked (addMap ns) e = crooked ns refl (eqb-false _ _ e)
-  is-crooked (addModule r) e = absurd (true≢false e)
-  is-crooked (addCommandLine t) e = absurd (true≢false e)
-  is-crooked (addFramebuffer r) e = absurd (true≢false e)
+  is-left-over : (g : Addition) → formed g ≡ false → AdditionBreaks room c g FORM
+  is-left-over (addPlatform r) e = absurd (true≢false e)
+  is-left-over (addKernel r) e = absurd (true≢false e)
+  is-left-over (addMap ns) e = leftOver ns refl (eqb-false _ _ e)
+  is-left-over (addModule r) e = absurd (true≢false e)
+  is-left-over (addCommandLine t) e = absurd (true≢false e)
+  is-left-over (addFramebuffer r) e = absurd (true≢false e)
 
   -- the written size suits every other body
   is-unsuited : (g : Addition) → sizeSuits (sizeGiven g) (bodyGiven g) ≡ false → AdditionBreaks room c g FORM
@@ -88,7 +88,7 @@ module _ (room : ℕ) (c : Context) where
   is-unsuited (addFramebuffer r) e = absurd (true≢false e)
 
   off-form : (g : Addition) → formed g ≡ true → sizeSuits (sizeGiven g) (bodyGiven g) ≡ true → AdditionBreaks room c g FORM → ⊥
-  off-form g e q (crooked ns i n) = n (eqb-true _ _ (subst (λ (x : Addition). formed x ≡ true) i e))
+  off-form g e q (leftOver ns i n) = n (eqb-true _ _ (subst (λ (x : Addition). formed x ≡ true) i e))
   off-form g e q (incomplete r i k) = true≢false (sym (subst (λ (x : Addition). sizeSuits (sizeGiven x) (bodyGiven x) ≡ true) i q) ∙ on-incomplete r k)
 
   in-adding : (g : Addition) (m : ℕ) → AdditionBreaks room c g m → (9 ≤ m) × (m < 19)
@@ -98,7 +98,7 @@ module _ (room : ℕ) (c : Context) where
   in-adding g m (later e h) = (omega arith, omega arith)
   in-adding g m (repeat s o) = (omega arith, omega arith)
   in-adding g m (split s o n) = (omega arith, omega arith)
-  in-adding g m (crooked ns e h) = (omega arith, omega arith)
+  in-adding g m (leftOver ns e h) = (omega arith, omega arith)
   in-adding g m (incomplete r e h) = (omega arith, omega arith)
   in-adding g m (value h) = (omega arith, omega arith)
   in-adding g m (text h) = (omega arith, omega arith)
@@ -197,7 +197,7 @@ module _ (b : List ℕ) (g : Addition) where
   given-chain : Chain Row 12 17 (additionFault g)
   unfolding additionFault bodyFault
   given-chain =
-      try (formed g) (is-crooked (roomOf b) now g) (λ e.
+      try (formed g) (is-left-over (roomOf b) now g) (λ e.
       try (sizeSuits (sizeGiven g) (bodyGiven g)) (is-unsuited (roomOf b) now g) (λ q.
       beyond (off-form (roomOf b) now g e q)
       (link _ value on-value (link _ text on-text (link _ range on-range (link _ order on-order ends))))))

@@ -49,7 +49,7 @@ pub data AdditionBreaks (room : ℕ) (c : Context) (g : Addition) : ℕ → Type
   -- "type 4 or from 7 up, occurred earlier, and the attribute just before has another type"
   split : repeatable (typeGiven g) ≡ true → Occurs c (typeGiven g) → (typeAt c (count c - 1) ≡ typeGiven g → ⊥) → AdditionBreaks room c g SPLIT
   -- "12 is given if their count is no multiple of three. A platform record with an absent member is refused as 12."
-  crooked : (ns : List ℕ) → g ≡ addMap ns → (length ns % 3 ≡ 0 → ⊥) → AdditionBreaks room c g FORM
+  leftOver : (ns : List ℕ) → g ≡ addMap ns → (length ns % 3 ≡ 0 → ⊥) → AdditionBreaks room c g FORM
   incomplete : (r : PlatformRecord) → g ≡ addPlatform r → Incomplete r → AdditionBreaks room c g FORM
   -- "the member rules above": values, texts, ranges, map order
   value : values (bodyGiven g) ≡ false → AdditionBreaks room c g VALUE
