@@ -1,9 +1,9 @@
 -- Laws of the tests 9 to 11: each answer from the facts that lead to it; and of the types before an attribute.
 -- Assumes nothing.
 use Prim.Native.Nat.{ℕ, zero, suc, _+_, _≤_, _<_}
-use mathlib.Core.Path.{_≡_, refl, sym, ap, subst}
+use mathlib.Core.Path.{_≡_, refl, sym, ap, subst, _∙_}
 use mathlib.Core.Bool.{Bool, true, false, not, _||_, and-false}
-use mathlib.Core.List.{List}
+use mathlib.Core.List.{List, [], _∷_}
 use mathlib.Core.Logic.{⊎-elim}
 use native.Mathlib.Omega.{arith}
 use native.Mathlib.Numerals.{add-one}
@@ -13,6 +13,7 @@ use lib.Dec.{leb, eqb}
 use borrow.Author.Tests.{le-leb, lt-leb, eqb-false, eq-eqb, ne-eqb}
 use Rattle.ultra_format.specs.Places.{placed, single, repeatable, occurs, nearest, placeFault}
 use Rattle.ultra_format.specs.Decoding.{storedType, typesBefore}
+use Rattle.ultra_reading.specs.Reading.{highestOf}
 
 -- ---- the index
 pub placed-first : (i t : ℕ) → i ≡ 0 → eqb t 1 ≡ placed i t
@@ -54,6 +55,12 @@ high-repeatable t h = go (eqb t 3) (eqb t 5) (eqb t 6) (eqb t 4) refl refl refl 
         let n4 = eqb-false t 4 u in
         le-leb 7 t (omega arith)
 
+-- ---- a type above those before
+above-new : (before : List ℕ) (t : ℕ) → highestOf before < t → occurs t before ≡ false
+unfolding highestOf occurs
+above-new [] t h = refl
+above-new (u ∷ us) t h = simp (ne-eqb u t (λ e. omega arith), above-new us t (omega arith))
+
 -- ---- the answers
 module _ (before : List ℕ) (t : ℕ) where
   pub stop-place : placed (length before) t ≡ false → 9 ≡ placeFault before t
@@ -80,6 +87,12 @@ module _ (before : List ℕ) (t : ℕ) where
     pub stop-split : 3 ≤ t → single t ≡ false → occurs t before ≡ true → (t ≡ nearest before → ⊥) → 11 ≡ placeFault before t
     unfolding placeFault
     stop-split h s o n = simp (p, s, high-repeatable t h s, o, ne-eqb (nearest before) t (λ e. n (sym e)))
+
+  pub pass-above : 2 ≤ length before → 2 < t → highestOf before < t → 0 ≡ placeFault before t
+  pass-above l m h = pass-new later (above-new before t h)
+    where
+      later : placed (length before) t ≡ true
+      later = sym (placed-later (length before) t (λ e. omega arith) (λ e. omega arith)) ∙ simp (ne-eqb t 1 (λ e. omega arith), ne-eqb t 2 (λ e. omega arith))
 
 -- ---- the types before attribute i
 pub length-types : (b : List ℕ) (i : ℕ) → length (typesBefore b i) ≡ i

@@ -1,6 +1,6 @@
 -- Laws of going over the attributes: one attribute's answer, the next attribute, and the answer from an attribute on.
 -- Assumes nothing.
-use Prim.Native.Nat.{ℕ, suc, _+_, _-_, _<_}
+use Prim.Native.Nat.{ℕ, suc, _+_, _-_, _<_, max}
 use mathlib.Core.Path.{_≡_}
 use mathlib.Core.List.{List}
 use native.Mathlib.Omega.{arith}
@@ -12,7 +12,7 @@ use Rattle.ultra_format.specs.Places.{nearest, placeFault}
 use Rattle.ultra_format.specs.Decoding.{decoded, start, storedType, storedSize, typesBefore}
 use Rattle.ultra_format.specs.declared.Answer.the-variants.{Done}
 use Rattle.ultra_format.proofs.Chains.{none-first, first-stays, refuses}
-use Rattle.ultra_reading.specs.Reading.{boundsFault, attributeFault, faultOf, attributesAnswer}
+use Rattle.ultra_reading.specs.Reading.{boundsFault, attributeFault, faultOf, highestOf, attributesAnswer}
 use Rattle.ultra_reading.proofs.BoundsLaws.{BoundsHold, bounds-hold}
 
 -- ---- one attribute
@@ -42,6 +42,10 @@ start-next b i = rw add-one
 pub nearest-next : (b : List ℕ) (i : ℕ) → nearest (typesBefore b (i + 1)) ≡ storedType b i
 unfolding typesBefore
 nearest-next b i = rw add-one
+
+pub highest-next : (b : List ℕ) (i : ℕ) → highestOf (typesBefore b (i + 1)) ≡ max (highestOf (typesBefore b i)) (storedType b i)
+unfolding typesBefore highestOf
+highest-next b i = rw add-one
 
 -- ---- the answer from attribute i of n on
 module _ (b : List ℕ) (room i n : ℕ) where

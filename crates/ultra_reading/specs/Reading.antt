@@ -1,10 +1,10 @@
 -- What reading a buffer answers: the tests of document 01's table, in its order. "In reading and adding, 1 to 4 (3 for the count)
 -- have offset 0 and come first. Then attribute by attribute, 5 to 16 in that order, each with that attribute's start".
 -- Assumes nothing.
-use Prim.Native.Nat.{ℕ, zero, suc, _+_, _%_, _<_}
+use Prim.Native.Nat.{ℕ, zero, suc, _+_, _%_, _<_, max}
 use mathlib.Core.Path.{_≡_}
 use mathlib.Core.Bool.{not}
-use mathlib.Core.List.{List}
+use mathlib.Core.List.{List, [], _∷_}
 use lib.ListN.{getD}
 use lib.Dec.{leb, eqb}
 use Rattle.words.specs.Words.{u32At}
@@ -53,6 +53,11 @@ faultOf b room i = attributeFault b room (typesBefore b i) (start b i)
 -- the attributes before i have no fault
 abbrev pub Clear : List ℕ → ℕ → ℕ → Type 0
 Clear b room i = (j : ℕ) → j < i → faultOf b room j ≡ 0
+
+-- the highest of some types, 0 where there is none
+unfoldable pub highestOf : List ℕ → ℕ
+highestOf [] = 0
+highestOf (u ∷ us) = max (highestOf us) u
 
 -- n attributes from attribute i on: the first fault, or where they end
 unfoldable pub attributesAnswer : List ℕ → ℕ → ℕ → ℕ → Answer

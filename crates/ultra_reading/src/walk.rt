@@ -1,18 +1,43 @@
 // Attribute by attribute: refusals 5 to 16.
 ghost use mathlib.Core.Path.{_≡_};
-ghost use Prim.Native.Nat.{_≤_};
+ghost use Prim.Native.Nat.{_≤_, max};
 ghost use lib.ListN.{length};
-ghost use Rattle.ultra_format.specs.Places.{nearest};
+ghost use Rattle.ultra_format.specs.Places.{nearest, placeFault};
 ghost use Rattle.ultra_format.specs.Decoding.{typesBefore};
-ghost use Rattle.ultra_reading.specs.Reading.{Clear, attributeFault, attributesAnswer};
+ghost use Rattle.ultra_reading.specs.Reading.{Clear, highestOf, attributeFault, attributesAnswer};
 use ultra_format::Answer;
 use ultra_format::Refusal;
 
-// The first of 5 to 16 that the attribute at `at` breaks, or 0. `index` and `previous` are its index and the type just before.
-fn fault(buf: &[u8], room: usize, index: u32, previous: u32, at: usize) -> u32
+// The higher of two types.
+fn higher(a: u32, b: u32) -> u32
+    ensures { λ r. ⌜ r ≡ max a b ⌝ }
+{
+    if a < b { b } else { a }
+}
+
+// The first of 9 to 11, as `place::fault`, but with no search for a type above `highest`, the highest before: it did not occur.
+fn place_fault(buf: &[u8], room: usize, index: u32, previous: u32, highest: u32, kind: u32) -> u32
+    requires { ⌜ (room ≤ length (now buf)) × (1 ≤ kind) ⌝ }
+    requires { ⌜ Clear (now buf) room index ⌝ }
+    requires { ⌜ (previous ≡ nearest (typesBefore (now buf) index)) × (highest ≡ highestOf (typesBefore (now buf) index)) ⌝ }
+    ensures { λ r. ⌜ r ≡ placeFault (typesBefore (now (buf .entry)) index) kind ⌝ }
+{
+    if 2 <= index {
+        if 2 < kind {
+            if highest < kind {
+                return 0;
+            }
+        }
+    }
+    crate::place::fault(buf, room, index, previous, kind)
+}
+
+// The first of 5 to 16 that the attribute at `at` breaks, or 0. `index`, `previous` and `highest` are its index, the type just before
+// and the highest type before.
+fn fault(buf: &[u8], room: usize, index: u32, previous: u32, highest: u32, at: usize) -> u32
     requires { ⌜ (room ≤ length (now buf)) × (at ≤ 4294967295) ⌝ }
     requires { ⌜ Clear (now buf) room index ⌝ }
-    requires { ⌜ previous ≡ nearest (typesBefore (now buf) index) ⌝ }
+    requires { ⌜ (previous ≡ nearest (typesBefore (now buf) index)) × (highest ≡ highestOf (typesBefore (now buf) index)) ⌝ }
     ensures { λ r. ⌜ r ≡ attributeFault (now (buf .entry)) room (typesBefore (now (buf .entry)) index) at ⌝ }
 {
     let bounds = crate::bounds::fault(buf, room, at);
@@ -20,7 +45,7 @@ fn fault(buf: &[u8], room: usize, index: u32, previous: u32, at: usize) -> u32
         return bounds;
     }
     let kind = words::load_u32(buf, at);
-    let place = crate::place::fault(buf, room, index, previous, kind);
+    let place = place_fault(buf, room, index, previous, highest, kind);
     if place != 0 {
         return place;
     }
@@ -34,13 +59,15 @@ pub fn attributes(buf: &[u8], room: usize, count: u32) -> Answer
 {
     let mut at: usize = 8;
     let mut previous = 0;
+    let mut highest = 0;
     let mut i = 0;
     while i < count {
-        let number = fault(buf, room, i, previous, at);
+        let number = fault(buf, room, i, previous, highest, at);
         if number != 0 {
             return Answer::Refused(Refusal::new(number, at as u32));
         }
         previous = words::load_u32(buf, at);
+        highest = higher(highest, previous);
         at += words::load_u32(buf, at + 4) as usize;
         i += 1;
     }

@@ -10,19 +10,19 @@ use borrow.Author.Count.{below-none, below-more}
 use denote.Ref.{now}
 use Rattle.ultra_format.specs.Places.{nearest}
 use Rattle.ultra_format.specs.Decoding.{start, storedSize, typesBefore}
-use Rattle.ultra_reading.specs.Reading.{faultOf, Clear, attributesAnswer}
+use Rattle.ultra_reading.specs.Reading.{faultOf, Clear, highestOf, attributesAnswer}
 use Rattle.ultra_reading.proofs.BoundsLaws.{BoundsHold}
-use Rattle.ultra_reading.proofs.WalkLaws.{attribute-bounds, start-next, nearest-next, walk-refuse, walk-next, walk-end}
+use Rattle.ultra_reading.proofs.WalkLaws.{attribute-bounds, start-next, nearest-next, highest-next, walk-refuse, walk-next, walk-end}
 use Rattle.ultra_reading.proofs.walk.attributes.Statement.{statement}
 use Rattle.ultra_reading.proofs.walk.attributes.Tie as tie
 
 abbrev Inv-loop : tie.InvT-loop
-Inv-loop buf room count at₀ previous₀ i₀ at previous i =
-    (at ≡ start buf i) × (previous ≡ nearest (typesBefore buf i)) × (i ≤ count) × (at ≤ room) × Clear buf room i
+Inv-loop buf room count at₀ previous₀ highest₀ i₀ at previous highest i =
+    (at ≡ start buf i) × (previous ≡ nearest (typesBefore buf i)) × (highest ≡ highestOf (typesBefore buf i)) × (i ≤ count) × (at ≤ room) × Clear buf room i
     × (attributesAnswer buf room i (count - i) ≡ attributesAnswer buf room 0 count)
 
 abbrev μ-loop : tie.MeasureT-loop
-μ-loop buf room count at₀ previous₀ i₀ at previous i = count - i
+μ-loop buf room count at₀ previous₀ highest₀ i₀ at previous highest i = count - i
 
 -- attribute `i` has no fault, where the test says so
 fine : (c : tie.Else1 Inv-loop μ-loop) → faultOf (now (c .before .before .before .before .before .args .buf)) (c .before .before .before .before .before .args .room) (c .before .before .before .loop .i) ≡ 0
@@ -33,11 +33,11 @@ here : (c : tie.Else1 Inv-loop μ-loop)
 here c = attribute-bounds _ _ _ _ (fine c)
 
 loop-holds : tie.Need-loop-holds Inv-loop μ-loop
-unfolding start typesBefore
-loop-holds c = (refl, refl, search needs, search needs, below-none _, rw sub-zero)
+unfolding start typesBefore highestOf
+loop-holds c = (refl, refl, refl, search needs, search needs, below-none _, rw sub-zero)
 
 fault-requires : tie.Need-fault-requires Inv-loop μ-loop
-fault-requires c κs = ((search needs, search needs), (c .before .loop .inv .4, search needs))
+fault-requires c κs = ((search needs, search needs), (c .before .loop .inv .5, (search needs, search needs)))
 
 cast-new : tie.Need-cast-new Inv-loop μ-loop
 cast-new c = search needs
@@ -53,17 +53,20 @@ returns c =
 load-u32-requires : tie.Need-load-u32-requires Inv-loop μ-loop
 load-u32-requires c κs = omega (arith, here c)
 
+higher-requires : tie.Need-higher-requires Inv-loop μ-loop
+higher-requires c κs = search needs
+
 add-load-u32 : tie.Need-add-load-u32 Inv-loop μ-loop
-add-load-u32 c = omega (arith, here (c .before))
+add-load-u32 c = omega (arith, here (c .before .before))
 
 load-u32-requires-2 : tie.Need-load-u32-requires-2 Inv-loop μ-loop
-load-u32-requires-2 c κs = omega (arith, here (c .before))
+load-u32-requires-2 c κs = omega (arith, here (c .before .before))
 
 cast-at : tie.Need-cast-at Inv-loop μ-loop
 cast-at c = search needs
 
 add-at : tie.Need-add-at Inv-loop μ-loop
-add-at c = omega (arith, here (c .before .before))
+add-at c = omega (arith, here (c .before .before .before))
 
 add-i : tie.Need-add-i Inv-loop μ-loop
 add-i c = search needs
@@ -73,19 +76,21 @@ loop-less c = search needs
 
 loop-again : tie.Need-loop-again Inv-loop μ-loop
 loop-again c =
-    let a = c .before .before .before .before .before .before .before .args in
-    let l = c .before .before .before .before .before .loop in
+    let f = c .before .before .before in
+    let a = f .before .before .before .before .before .args in
+    let l = f .before .before .before .loop in
     let s : c .load-u322 .result ≡ storedSize (now (a .buf)) (l .i) = cc in (
       cc (start-next (now (a .buf)) (l .i)),
       cc (nearest-next (now (a .buf)) (l .i)),
+      cc (highest-next (now (a .buf)) (l .i)),
       search needs,
-      omega (arith, here (c .before .before)),
-      below-more _ _ (l .inv .4) (fine (c .before .before)),
-      cc (walk-next (now (a .buf)) (a .room) (l .i) (a .count) (c .before .before .before .before .loop-test .taken) (fine (c .before .before))),
+      omega (arith, here f),
+      below-more _ _ (l .inv .5) (fine f),
+      cc (walk-next (now (a .buf)) (a .room) (l .i) (a .count) (f .before .before .loop-test .taken) (fine f)),
     )
 
-cast-t14 : tie.Need-cast-t14 Inv-loop μ-loop
-cast-t14 c = search needs
+cast-t15 : tie.Need-cast-t15 Inv-loop μ-loop
+cast-t15 c = search needs
 
 returns-2 : tie.Need-returns-2 Inv-loop μ-loop
 returns-2 c =
@@ -106,6 +111,7 @@ attributes-spec =
     new-requires
     returns
     load-u32-requires
+    higher-requires
     add-load-u32
     load-u32-requires-2
     cast-at
@@ -113,5 +119,5 @@ attributes-spec =
     add-i
     loop-less
     loop-again
-    cast-t14
+    cast-t15
     returns-2)

@@ -23,9 +23,9 @@ no-bounds : (c : tie.Else1) → boundsFault (now (c .before .before .before .arg
 no-bounds c = sym (c .before .fault .ensures) ∙ c .if1 .left
 
 -- what the place's test answers, of the type that was loaded
-placing : (c : tie.After-fault2)
-    → c .fault2 .result ≡ placeFault (typesBefore (now (c .before .before .before .before .before .args .buf)) (c .before .before .before .before .before .args .index)) (u32At (now (c .before .before .before .before .before .args .buf)) (c .before .before .before .before .before .args .at))
-placing c = c .fault2 .ensures ∙ ap (placeFault _) (c .before .load-u32 .ensures)
+placing : (c : tie.After-place-fault)
+    → c .place-fault .result ≡ placeFault (typesBefore (now (c .before .before .before .before .before .args .buf)) (c .before .before .before .before .before .args .index)) (u32At (now (c .before .before .before .before .before .args .buf)) (c .before .before .before .before .before .args .at))
+placing c = c .place-fault .ensures ∙ ap (placeFault _) (c .before .load-u32 .ensures)
 
 fault-requires : tie.Need-fault-requires
 fault-requires c κs = search needs
@@ -36,8 +36,8 @@ returns c = let e = c .before .fault .ensures in e ∙ stop-bounds _ _ _ _ (λ z
 load-u32-requires : tie.Need-load-u32-requires
 load-u32-requires c κs = omega (arith, here c)
 
-fault-requires-2 : tie.Need-fault-requires-2
-fault-requires-2 c κs = (search needs, (search needs, (search needs, omega (arith, here (c .before)))))
+place-fault-requires : tie.Need-place-fault-requires
+place-fault-requires c κs = ((search needs, omega (arith, here (c .before))), (search needs, search needs))
 
 returns-2 : tie.Need-returns-2
 returns-2 c =
@@ -70,7 +70,7 @@ fault-spec =
     fault-requires
     returns
     load-u32-requires
-    fault-requires-2
+    place-fault-requires
     returns-2
     add-load-u32
     load-u32-requires-2
