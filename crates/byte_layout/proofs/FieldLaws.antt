@@ -50,7 +50,7 @@ length-field (padding k) = length-silence k
 
 -- ---- one field
 -- what is stored fits
-number-fits : (b : List ℕ) → Bytes b → (o k : ℕ) → numberAt b o k < 256 ^ k
+pub number-fits : (b : List ℕ) → Bytes b → (o k : ℕ) → numberAt b o k < 256 ^ k
 unfolding numberAt
 number-fits b y o zero = omega arith
 number-fits b y o (suc k) = let r = number-fits b y (o + 1) k in omega (arith, y o)

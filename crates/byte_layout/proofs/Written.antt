@@ -1,6 +1,6 @@
 -- A layout is written field by field: over the front of a list, each field is stored behind those before it.
 -- Assumes nothing.
-use Prim.Native.Nat.{ℕ, zero, suc, _+_, _<_}
+use Prim.Native.Nat.{ℕ, zero, suc, _+_, _≤_, _<_}
 use mathlib.Core.Path.{_≡_, refl, sym, ap, ap₂, _∙_}
 use mathlib.Core.List.{List, [], _∷_, _++_, append-nil}
 use native.Mathlib.Omega.{arith}
@@ -9,6 +9,7 @@ use native.Mathlib.Numerals.{add-one}
 use lib.ListN.{length, drop, getD, set, length-append}
 use lib.Seq.{paste, paste-suc, take-append-seam, drop-append-add, drop-drop}
 use Rattle.words.specs.Words.{littleEndian, replaced}
+use Rattle.words.proofs.Widths.{replaced-twice}
 use Rattle.byte_layout.specs.Fields.{Cell, Field, bytes, silence, padded, textCells, fieldCells, fieldWidth, cells, width, filled}
 use Rattle.byte_layout.specs.Fields.{Field.number, Field.raw, Field.text, Field.padding, Cell.byte, Cell.silent}
 use Rattle.byte_layout.specs.Stored.{over}
@@ -75,6 +76,10 @@ pub nothing : (e : List ℕ) → Front e 0 [] e
 unfolding cells width filled
 nothing e = record { ends = refl; front = refl }
 
+-- what a function that writes the first fields leaves
+pub begun : (e : List ℕ) {q : List ℕ} (fs : List Field) → q ≡ over (filled (cells fs)) e → Front e (width fs) fs q
+begun e fs h = record { ends = refl; front = h }
+
 -- fields stored where those before them end
 pub more : {e q r : List ℕ} {o k : ℕ} {fs : List Field} (gs : List Field) → width gs ≡ k → Front e o fs q → r ≡ replaced q o k (filled (cells gs)) → Front e (o + k) (fs ++ gs) r
 more {e} {q} {r} {o} {k} {fs} gs w t s =
@@ -103,14 +108,12 @@ no-padding {e} {q} {o} {fs} t =
       front = t .front ∙ ap (λ (c : List Cell). over (filled c) e) (sym (cells-append fs (padding 0 ∷ []) ∙ append-nil (cells fs)));
     }
 
--- ---- bytes as wide as their field, and a text with zeros behind it
-pub padded-whole : (k : ℕ) (l : List ℕ) → length l ≡ k → padded k l ≡ l
-padded-whole zero [] e = refl
-padded-whole zero (x ∷ l) e = absurd (omega arith)
-padded-whole (suc k) [] e = absurd (omega arith)
-padded-whole (suc k) (x ∷ l) e = ap (λ (m : List ℕ). x ∷ m) (padded-whole k l (omega arith))
-
-pub padded-split : (k n : ℕ) (l : List ℕ) → k ≡ length l + n → padded k l ≡ l ++ padded n []
+-- ---- bytes in their field, with zeros behind them
+padded-split : (k n : ℕ) (l : List ℕ) → k ≡ length l + n → padded k l ≡ l ++ padded n []
 padded-split k n [] e = let q : k ≡ n = omega arith in rw q
 padded-split zero n (x ∷ l) e = absurd (omega arith)
 padded-split (suc k) n (x ∷ l) e = ap (λ (m : List ℕ). x ∷ m) (padded-split k n l (omega arith))
+
+pub padded-stored : (b l q r : List ℕ) (o k n : ℕ) → k ≡ length l + n → o + k ≤ length b
+    → q ≡ replaced b o (length l) l → r ≡ replaced q (o + length l) n (padded n []) → r ≡ replaced b o k (padded k l)
+padded-stored b l q r o k n z h e f = f ∙ rw (e, padded-split k n l z, z) (replaced-twice b o (length l) n l (padded n []) refl (omega arith))

@@ -5,3 +5,4 @@ pub mod Attributes
 pub mod Decoded
 pub mod Given
 pub mod Witness
+pub mod Numbers

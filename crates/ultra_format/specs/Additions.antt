@@ -2,13 +2,14 @@
 -- that it breaks.
 -- Assumes nothing.
 use Prim.Native.Nat.{ℕ, _%_}
-use mathlib.Core.Bool.{Bool, true}
+use mathlib.Core.Bool.{Bool, true, _&&_}
 use mathlib.Core.List.{List, [], _∷_}
 use lib.ListN.{length}
 use lib.Dec.{eqb}
+use Rattle.words.specs.Words.{numbersIn}
 use Rattle.ultra_format.specs.Refusals.{unless, FORM}
 use Rattle.ultra_format.specs.Contexts.{Entry, Body, typeOf, Attribute}
-use Rattle.ultra_format.specs.Contexts.{Body.platform, Body.kernel, Body.memoryMap, Body.moduleInfo, Body.commandLine, Body.framebuffer}
+use Rattle.ultra_format.specs.Contexts.{Member.present, Body.platform, Body.kernel, Body.memoryMap, Body.moduleInfo, Body.commandLine, Body.framebuffer}
 use Rattle.ultra_format.specs.Layouts.{attributeWritten}
 use Rattle.ultra_format.specs.Members.{bodyFault}
 use Rattle.ultra_format.specs.Plain.{writtenSize}
@@ -49,12 +50,18 @@ typeGiven g = typeOf (bodyGiven g)
 abbrev pub sizeGiven : Addition → ℕ
 sizeGiven g = writtenSize (bodyGiven g)
 
-abbrev pub attributeGiven : Addition → Attribute
-attributeGiven g = record { size = sizeGiven g; body = bodyGiven g }
+-- the attribute that members given become, and the bytes that it is written in
+abbrev pub newAttribute : Body → Attribute
+newAttribute x = record { size = writtenSize x; body = x }
 
--- the bytes that the new attribute is written in
+abbrev pub newBytes : Body → List ℕ
+newBytes x = attributeWritten (newAttribute x)
+
+abbrev pub attributeGiven : Addition → Attribute
+attributeGiven g = newAttribute (bodyGiven g)
+
 abbrev pub bytesGiven : Addition → List ℕ
-bytesGiven g = attributeWritten (attributeGiven g)
+bytesGiven g = newBytes (bodyGiven g)
 
 -- "12 is given if their count is no multiple of three."
 abbrev pub formed : Addition → Bool
@@ -65,8 +72,60 @@ formed (addModule r) = true
 formed (addCommandLine t) = true
 formed (addFramebuffer r) = true
 
--- the first of 12 to 16 that it breaks, or 0: the rules of reading on the attribute that it becomes. "A platform record with an absent
--- member is refused as 12": its 88 bytes have space for every member (sizeSuits). "A text given is refused as 14 if it holds a zero byte
--- or leaves no place for its closing zero in a fixed field": no zero is a byte of a text, and a text is shorter than its field (texts).
-unfoldable pub additionFault : Addition → ℕ
-additionFault g = unless (formed g) FORM (bodyFault (sizeGiven g) (bodyGiven g))
+-- ---- members given one by one: "records given cross as numbers and byte slices". A text is its bytes as they are, and every member of a
+-- platform is present.
+abbrev pub platformOf : (kind major minor : ℕ) (name : List ℕ) (rsdp base depth dtb smbios : ℕ) → Body
+platformOf kind major minor name rsdp base depth dtb smbios =
+    platform record {
+      platformType = kind;
+      loaderMajor = major;
+      loaderMinor = minor;
+      name = name;
+      rsdp = rsdp;
+      higherHalfBase = present base;
+      depth = present depth;
+      dtb = present dtb;
+      smbios = present smbios;
+    }
+
+abbrev pub kernelOf : (physical virtual size partitionType : ℕ) (disk partition : List ℕ) (diskIndex partitionIndex : ℕ) (path : List ℕ) → Body
+kernelOf physical virtual size partitionType disk partition diskIndex partitionIndex path =
+    kernel record {
+      physicalBase = physical;
+      virtualBase = virtual;
+      size = size;
+      partitionType = partitionType;
+      diskGuid = disk;
+      partitionGuid = partition;
+      diskIndex = diskIndex;
+      partitionIndex = partitionIndex;
+      path = path;
+    }
+
+abbrev pub moduleOf : (kind : ℕ) (name : List ℕ) (address size : ℕ) → Body
+moduleOf kind name address size = moduleInfo (record { moduleType = kind; name = name; address = address; size = size })
+
+abbrev pub framebufferOf : (width height pitch bpp format address : ℕ) → Body
+framebufferOf width height pitch bpp format address =
+    framebuffer (record { width = width; height = height; pitch = pitch; bpp = bpp; format = format; address = address })
+
+-- a map as bytes
+abbrev pub mapOf : List ℕ → Body
+mapOf bytes = memoryMap (entriesGiven (numbersIn bytes))
+
+-- "12 for a map not of 24n bytes or a GUID not of 16"
+abbrev pub mapFormed : List ℕ → Bool
+mapFormed bytes = eqb (length bytes % 24) 0
+
+abbrev pub guidsFormed : List ℕ → List ℕ → Bool
+guidsFormed disk partition = eqb (length disk) 16 && eqb (length partition) 16
+
+-- ---- the first of 12 to 16 that is broken, or 0
+-- of members given, formed or not: the rules of reading on the attribute that they become. "A platform record with an absent member is
+-- refused as 12": its 88 bytes have space for every member (sizeSuits). "A text given is refused as 14 if it holds a zero byte or leaves
+-- no place for its closing zero in a fixed field": no zero is a byte of a text, and a text is shorter than its field (texts).
+unfoldable pub givenFault : Bool → Body → ℕ
+givenFault formed x = unless formed FORM (bodyFault (writtenSize x) x)
+
+abbrev pub additionFault : Addition → ℕ
+additionFault g = givenFault (formed g) (bodyGiven g)

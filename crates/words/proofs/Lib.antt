@@ -1,2 +1,4 @@
 pub mod Widths
 pub mod Stores
+pub mod Numbers
+pub mod NumberBytes

@@ -1,12 +1,12 @@
 -- One law over the width for loads, and one for stores: a number of `j + k` bytes is one of `j` bytes and one of `k` behind it.
 -- Assumes nothing.
-use Prim.Native.Nat.{ℕ, zero, suc, _+_, _*_, _/_, _%_, _^_, _≤_}
+use Prim.Native.Nat.{ℕ, zero, suc, _+_, _*_, _/_, _%_, _^_, _≤_, _<_}
 use mathlib.Core.Path.{_≡_, refl, sym, ap, ap₂, _∙_}
-use mathlib.Core.List.{List, _∷_, _++_, append-assoc}
+use mathlib.Core.List.{List, [], _∷_, _++_, append-assoc}
 use native.Mathlib.Omega.{arith}
 use native.Mathlib.Nat.{add-zero, zero-add, suc-add, mul-assoc, mul-comm, pow-suc, div-one, div-div-eq-div-mul}
-use lib.ListN.{length, take, drop, length-append}
-use lib.Seq.{take-at, length-take-le, drop-drop, drop-append-add}
+use lib.ListN.{length, take, drop, set, length-append}
+use lib.Seq.{take-at, length-take-le, drop-drop, drop-append-add, sets-eq}
 use Rattle.words.specs.Words.{numberAt, littleEndian, replaced}
 
 pub number-split : (b : List ℕ) (o j k : ℕ) → numberAt b o (j + k) ≡ numberAt b o j + 256 ^ j * numberAt b (o + j) k
@@ -58,3 +58,7 @@ pub store-split : (b : List ℕ) (o j k n low : ℕ) → n ≡ low + n / 256 ^ j
 store-split b o j k n low e h =
     replaced-twice b o j k _ _ (length-bytes j low) h
     ∙ ap (replaced b o (j + k)) (ap (λ (l : List ℕ). l ++ littleEndian k (n / 256 ^ j)) (sym (same-low j n low (n / 256 ^ j) e)) ∙ sym (bytes-split j k n))
+
+-- a byte set is a number of one byte stored
+pub byte-stored : (b : List ℕ) (o n : ℕ) → n < 256 → o < length b → set b o n ≡ replaced b o 1 (littleEndian 1 n)
+byte-stored b o n s h = let q : n % 256 ≡ n = omega arith in rw q (sets-eq (n ∷ []) b o (omega arith))
