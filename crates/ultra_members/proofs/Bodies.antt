@@ -11,7 +11,7 @@ use borrow.Author.Tests.{eq-eqb, ne-eqb}
 use Rattle.ultra_format.specs.Contexts.{Kernel, Body, Body.platform, Body.kernel, Body.memoryMap}
 use Rattle.ultra_format.specs.Members.{presentIf, sizeSuits, values, texts, rangeFits, ranges, ordered, bodyFault}
 use Rattle.ultra_format.specs.Decoding.{memberWhen, platformAt, entriesAt, decoded}
-use Rattle.ultra_members.proofs.Entries.{length-entries}
+use Rattle.ultra_format.proofs.Numbers.{length-entries}
 
 -- a decoded member is present exactly if the size says so
 as-said : (t : Bool) (n : ℕ) → presentIf t (memberWhen t n) ≡ true
@@ -24,14 +24,14 @@ platform-suits b o s =
     simp (as-said (leb 64 s), as-said (leb 65 s), as-said (leb 80 s), as-said (leb 88 s), and-true)
 
 -- a map fills its size if and only if that is 8 and a multiple of 24
-module _ (b : List ℕ) (o s : ℕ) (h : 8 ≤ s) where
-  pub map-suits : (s - 8) % 24 ≡ 0 → sizeSuits s (memoryMap (entriesAt b o ((s - 8) / 24))) ≡ true
+module _ (b : List ℕ) (o : ℕ) where
+  pub entries-suit : (n : ℕ) → sizeSuits (8 + 24 * n) (memoryMap (entriesAt b o n)) ≡ true
   unfolding sizeSuits
-  map-suits e = rw length-entries (eq-eqb s (8 + 24 * ((s - 8) / 24)) (omega arith))
+  entries-suit n = rw length-entries (eq-eqb (8 + 24 * n) (8 + 24 * n) refl)
 
-  pub map-misfits : ((s - 8) % 24 ≡ 0 → ⊥) → sizeSuits s (memoryMap (entriesAt b o ((s - 8) / 24))) ≡ false
+  pub map-misfits : (s : ℕ) → 8 ≤ s → ((s - 8) % 24 ≡ 0 → ⊥) → sizeSuits s (memoryMap (entriesAt b o ((s - 8) / 24))) ≡ false
   unfolding sizeSuits
-  map-misfits e = rw length-entries (ne-eqb s (8 + 24 * ((s - 8) / 24)) (λ q. e (omega arith)))
+  map-misfits s h e = rw length-entries (ne-eqb s (8 + 24 * ((s - 8) / 24)) (λ q. e (omega arith)))
 
 module _ (k : Kernel) where
   pub physical-breaks : rangeFits (k .physicalBase) (k .size) ≡ false → ranges (kernel k) ≡ false

@@ -1,7 +1,7 @@
 -- Laws of a memory map's entries, one entry at a time.
 -- Assumes nothing.
 use Prim.Native.Nat.{ℕ, zero, suc, _+_, _-_, _*_, _≤_, _<_}
-use mathlib.Core.Path.{_≡_, refl, ap}
+use mathlib.Core.Path.{_≡_, refl}
 use mathlib.Core.Bool.{Bool, true, false, _&&_}
 use mathlib.Core.List.{List}
 use native.Mathlib.Omega.{arith}
@@ -9,18 +9,13 @@ use lib.ListN.{length}
 use lib.Dec.{leb}
 use Rattle.words.specs.Words.{u64At}
 use Rattle.ultra_format.specs.Contexts.{Entry}
-use Rattle.ultra_format.specs.Members.{every, entriesOrdered}
+use Rattle.ultra_format.specs.Members.{every}
 use Rattle.ultra_format.specs.Decoding.{entryAt, entriesAt}
 
 -- the invariant of a loop over `count` entries from `at` on: those left, from `o` on, lie in the bytes, and `test` says of all
 -- entries what it says of those left
 abbrev pub Rest : (List Entry → Bool) → List ℕ → ℕ → ℕ → ℕ → ℕ → Type 0
 Rest test b at count o left = (o + 24 * left ≤ length b) × (test (entriesAt b at count) ≡ test (entriesAt b o left))
-
-pub length-entries : (b : List ℕ) (o n : ℕ) → length (entriesAt b o n) ≡ n
-unfolding entriesAt
-length-entries b o zero = refl
-length-entries b o (suc n) = ap suc (length-entries b (o + 24) n)
 
 module _ (b : List ℕ) (o : ℕ) where
   module _ (p : Entry → Bool) where
@@ -44,21 +39,3 @@ module _ (b : List ℕ) (o : ℕ) where
   -- "each entry's address is at least the sum of address and size of the one before": the entry at `o` is the one before
   abbrev pub endsBy : Bool
   endsBy = leb (u64At b o + u64At b (o + 8)) (u64At b (o + 24))
-
-  pub ordered-last : (n : ℕ) → n ≤ 1 → entriesOrdered (entriesAt b o n) ≡ true
-  unfolding entriesOrdered entriesAt
-  ordered-last zero h = refl
-  ordered-last (suc zero) h = refl
-  ordered-last (suc (suc n)) h = absurd (omega arith)
-
-  ordered-next : (n : ℕ) → 1 < n → entriesOrdered (entriesAt b o n) ≡ (endsBy && entriesOrdered (entriesAt b (o + 24) (n - 1)))
-  unfolding entriesOrdered entriesAt
-  ordered-next zero h = absurd (omega arith)
-  ordered-next (suc zero) h = absurd (omega arith)
-  ordered-next (suc (suc n)) h = let q : suc (suc n) - 1 ≡ suc n = omega arith in rw q
-
-  pub ordered-stop : (n : ℕ) → 1 < n → endsBy ≡ false → entriesOrdered (entriesAt b o n) ≡ false
-  ordered-stop n h e = rw (ordered-next n h, e)
-
-  pub ordered-rest : (n : ℕ) → 1 < n → endsBy ≡ true → entriesOrdered (entriesAt b o n) ≡ entriesOrdered (entriesAt b (o + 24) (n - 1))
-  ordered-rest n h e = rw (ordered-next n h, e)

@@ -4,3 +4,4 @@ pub mod Comparisons
 pub mod Entries
 pub mod Letters
 pub mod Products
+pub mod Sound

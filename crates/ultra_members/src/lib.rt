@@ -2,7 +2,7 @@
 mod command_line;
 mod framebuffer;
 mod kernel;
-mod map;
+pub mod map;
 mod module;
 mod platform;
 pub mod ranges;

@@ -3,8 +3,17 @@ ghost use mathlib.Core.Path.{_≡_};
 ghost use Prim.Native.Nat.{_+_, _-_, _*_, _/_, _≤_};
 ghost use lib.ListN.{length};
 ghost use Rattle.ultra_format.specs.Contexts.{Body};
-ghost use Rattle.ultra_format.specs.Members.{bodyFault, every, entryTyped, entryFits, entriesOrdered};
-ghost use Rattle.ultra_format.specs.Decoding.{entriesAt};
+ghost use Rattle.ultra_format.specs.Members.{bodyFault, every, entryTyped, entryFits};
+ghost use Rattle.ultra_format.specs.Decoding.{entryAt, entriesAt};
+ghost use Rattle.ultra_members.specs.Sound.{sound};
+
+// Whether the entry's type, in all its 64 bits, is not 0.
+fn typed(bytes: &[u8], entry: usize) -> bool
+    requires { ⌜ entry + 24 ≤ length (now bytes) ⌝ }
+    ensures { λ r. ⌜ r ≡ entryTyped (entryAt (now (bytes .entry)) entry) ⌝ }
+{
+    words::load_u64(bytes, entry + 16) != 0
+}
 
 fn all_typed(bytes: &[u8], at: usize, count: usize) -> bool
     requires { ⌜ at + 24 * count ≤ length (now bytes) ⌝ }
@@ -13,7 +22,7 @@ fn all_typed(bytes: &[u8], at: usize, count: usize) -> bool
     let mut entry = at;
     let mut left = count;
     while 0 < left {
-        if words::load_u64(bytes, entry + 16) == 0 {
+        if !typed(bytes, entry) {
             return false;
         }
         entry += 24;
@@ -41,13 +50,17 @@ fn all_fit(bytes: &[u8], at: usize, count: usize) -> bool
     true
 }
 
-fn all_ordered(bytes: &[u8], at: usize, count: usize) -> bool
+// Whether no entry breaks 13, 15 or 16, in one pass over the entries.
+fn all_sound(bytes: &[u8], at: usize, count: usize) -> bool
     requires { ⌜ at + 24 * count ≤ length (now bytes) ⌝ }
-    ensures { λ r. ⌜ r ≡ entriesOrdered (entriesAt (now (bytes .entry)) at count) ⌝ }
+    ensures { λ r. ⌜ r ≡ sound (entriesAt (now (bytes .entry)) at count) ⌝ }
 {
     let mut entry = at;
     let mut left = count;
     while 1 < left {
+        if !typed(bytes, entry) {
+            return false;
+        }
         let address = words::load_u64(bytes, entry);
         let size = words::load_u64(bytes, entry + 8);
         if !crate::ranges::ends_by(address, size, words::load_u64(bytes, entry + 24)) {
@@ -56,7 +69,34 @@ fn all_ordered(bytes: &[u8], at: usize, count: usize) -> bool
         entry += 24;
         left -= 1;
     }
-    true
+    if left == 0 {
+        return true;
+    }
+    if !typed(bytes, entry) {
+        return false;
+    }
+    crate::ranges::fits(
+        words::load_u64(bytes, entry),
+        words::load_u64(bytes, entry + 8),
+    )
+}
+
+// The first of 13, 15 and 16 that the entries break, or 0: their number suits the size that they are written with. A map that breaks none
+// is gone over once; where one is broken, and neither 13 nor 15, it is 16.
+pub fn entries_fault(bytes: &[u8], at: usize, count: usize) -> u32
+    requires { ⌜ at + 24 * count ≤ length (now bytes) ⌝ }
+    ensures { λ r. ⌜ r ≡ bodyFault (8 + 24 * count) (Body.memoryMap (entriesAt (now (bytes .entry)) at count)) ⌝ }
+{
+    if all_sound(bytes, at, count) {
+        return 0;
+    }
+    if !all_typed(bytes, at, count) {
+        return ultra_format::VALUE;
+    }
+    if !all_fit(bytes, at, count) {
+        return ultra_format::RANGE;
+    }
+    ultra_format::ORDER
 }
 
 pub fn fault(bytes: &[u8], at: usize, size: u32) -> u32
@@ -66,15 +106,5 @@ pub fn fault(bytes: &[u8], at: usize, size: u32) -> u32
     if (size - 8) % 24 != 0 {
         return ultra_format::FORM;
     }
-    let count = ((size - 8) / 24) as usize;
-    if !all_typed(bytes, at + 8, count) {
-        return ultra_format::VALUE;
-    }
-    if !all_fit(bytes, at + 8, count) {
-        return ultra_format::RANGE;
-    }
-    if !all_ordered(bytes, at + 8, count) {
-        return ultra_format::ORDER;
-    }
-    0
+    entries_fault(bytes, at + 8, ((size - 8) / 24) as usize)
 }

@@ -4,7 +4,7 @@ use mathlib.Core.Path.{refl, sym, _∙_}
 use native.Mathlib.Omega.{arith}
 use borrow.Author.Needs.{needs}
 use Rattle.ultra_format.specs.Members.{every, entryTyped}
-use Rattle.ultra_members.proofs.Comparisons.{is-zero, not-zero}
+use Rattle.ultra_members.proofs.Comparisons.{failed, held}
 use Rattle.ultra_members.proofs.Entries.{Rest, every-none, every-stop, every-rest}
 use Rattle.ultra_members.proofs.map.all_typed.Statement.{statement}
 use Rattle.ultra_members.proofs.map.all_typed.Tie as tie
@@ -18,16 +18,13 @@ abbrev μ-loop : tie.MeasureT-loop
 loop-holds : tie.Need-loop-holds Inv-loop μ-loop
 loop-holds c = (search needs, refl)
 
-add-load-u64 : tie.Need-add-load-u64 Inv-loop μ-loop
-add-load-u64 c = search needs
-
-load-u64-requires : tie.Need-load-u64-requires Inv-loop μ-loop
-load-u64-requires c κs = search needs
+typed-requires : tie.Need-typed-requires Inv-loop μ-loop
+typed-requires c κs = search needs
 
 returns : tie.Need-returns Inv-loop μ-loop
 returns c =
     let d = c .before .before in
-    sym (d .before .loop .inv .1 ∙ every-stop _ _ entryTyped _ (d .loop-test .taken) (is-zero (c .before .load-u64 .ensures) (c .if1 .taken)))
+    sym (d .before .loop .inv .1 ∙ every-stop _ _ entryTyped _ (d .loop-test .taken) (failed (c .before .typed .ensures) (c .if1 .taken)))
 
 add-entry : tie.Need-add-entry Inv-loop μ-loop
 add-entry c = search needs
@@ -41,7 +38,7 @@ loop-less c = search needs
 loop-again : tie.Need-loop-again Inv-loop μ-loop
 loop-again c =
     let d = c .before .before in
-    (omega arith, d .before .loop .inv .1 ∙ every-rest _ _ entryTyped _ (d .loop-test .taken) (not-zero (c .before .load-u64 .ensures) (c .if1 .left)))
+    (omega arith, d .before .loop .inv .1 ∙ every-rest _ _ entryTyped _ (d .loop-test .taken) (held (c .before .typed .ensures) (c .if1 .left)))
 
 returns-2 : tie.Need-returns-2 Inv-loop μ-loop
 returns-2 c = sym (c .before .loop .inv .1 ∙ every-none _ _ entryTyped _ (c .loop-test .left))
@@ -53,8 +50,7 @@ all-typed-spec =
     Inv-loop
     μ-loop
     loop-holds
-    add-load-u64
-    load-u64-requires
+    typed-requires
     returns
     add-entry
     sub-left
