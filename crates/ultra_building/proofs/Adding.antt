@@ -2,7 +2,7 @@
 -- Assumes nothing.
 use Prim.Native.Nat.{ℕ, _+_, _-_, _≤_}
 use mathlib.Core.Path.{_≡_, refl, sym, ap, _∙_}
-use mathlib.Core.Bool.{true}
+use mathlib.Core.Bool.{Bool, true}
 use mathlib.Core.List.{List, [], _++_, append-assoc, append-nil}
 use native.Mathlib.Omega.{arith}
 use lib.ListN.{length, take, drop, length-drop, drop-of-length-le}
@@ -11,10 +11,11 @@ use Rattle.words.specs.Words.{littleEndian, replaced}
 use Rattle.words.proofs.Stores.{length-replaced}
 use Rattle.byte_layout.specs.Stored.{over}
 use Rattle.ultra_format.specs.Answers.{orRefused}
-use Rattle.ultra_format.specs.Contexts.{Context, used}
+use Rattle.ultra_format.specs.Contexts.{Body, typeOf, Context, used}
 use Rattle.ultra_format.specs.Layouts.{roomOf}
 use Rattle.ultra_format.specs.Decoding.{storedCount, typesBefore}
-use Rattle.ultra_format.specs.Additions.{Addition, typeGiven, sizeGiven, bodyGiven, bytesGiven, formed, additionFault}
+use Rattle.ultra_format.specs.Plain.{writtenSize}
+use Rattle.ultra_format.specs.Additions.{Addition, typeGiven, sizeGiven, bodyGiven, formed, newBytes, givenFault, additionFault}
 use Rattle.ultra_format.specs.declared.Refusal.{Refusal}
 use Rattle.ultra_format.specs.declared.Answer.{Answer}
 use Rattle.ultra_format.specs.declared.Answer.the-variants.{Done, Refused}
@@ -22,7 +23,7 @@ use Rattle.ultra_format.proofs.Chains.{passed}
 use Rattle.ultra_acceptance.specs.Acceptance.{HeldBy}
 use Rattle.ultra_acceptance.proofs.Acceptance.{complete}
 use Rattle.ultra_acceptance.proofs.Walked.{BodyHolds, body-holds}
-use Rattle.ultra_building.specs.Building.{placementFault, placement, counted, admittedAt, admitted, addedAt, added}
+use Rattle.ultra_building.specs.Building.{placementFault, placement, counted, admittedAt, admitted, addedAt, addedMembers, added}
 use Rattle.ultra_building.proofs.Placements.{Read, was-read, Admits, placed}
 
 -- ---- what a admitted place says
@@ -49,29 +50,36 @@ length-counted b h = length-replaced b (littleEndian 4 (storedCount b + 1)) 4 4 
 
 -- ---- what is given
 -- without a fault it is formed, and its members meet the rules
-pub given-holds : (g : Addition) → additionFault g ≡ 0 → (formed g ≡ true) × BodyHolds (sizeGiven g) (bodyGiven g)
-unfolding additionFault
-given-holds g e = let p = passed (formed g) _ _ e in (p .0, body-holds _ _ (p .1))
+pub given-holds : (f : Bool) (x : Body) → givenFault f x ≡ 0 → (f ≡ true) × BodyHolds (writtenSize x) x
+unfolding givenFault
+given-holds f x e = let p = passed f _ _ e in (p .0, body-holds _ _ (p .1))
 
 -- its type, its fault and its size are those that an add finds a place with
-pub record Given (g : Addition) (t fault size : ℕ) : Type 0 where
-  pub kind : t ≡ typeGiven g
-  pub faulty : fault ≡ additionFault g
-  pub wide : size ≡ sizeGiven g
+pub record Given (f : Bool) (x : Body) (t fault size : ℕ) : Type 0 where
+  pub kind : t ≡ typeOf x
+  pub faulty : fault ≡ givenFault f x
+  pub wide : size ≡ writtenSize x
 
 -- ---- an add
 -- at a place in q that has been admitted: the attribute lies within the buffer and within the largest room, and has no fault
-pub record Place (q : List ℕ) (g : Addition) (n size : ℕ) : Type 0 where
+pub record Place (q : List ℕ) (f : Bool) (x : Body) (n size : ℕ) : Type 0 where
   pub within : n + size ≤ length q
   pub small : n + size ≤ 65536
-  pub wide : size ≡ sizeGiven g
-  pub sound : additionFault g ≡ 0
+  pub wide : size ≡ writtenSize x
+  pub sound : givenFault f x ≡ 0
 
-module _ (b q : List ℕ) (g : Addition) (t fault size : ℕ) (d : Given g t fault size) (a : Answer) (e : (a, q) ≡ admitted b t fault size) where
-  admitted-given : (a, q) ≡ admitted b (typeGiven g) (additionFault g) (sizeGiven g)
+-- the same of what an add is given
+abbrev pub GivenBy : Addition → ℕ → ℕ → ℕ → Type 0
+GivenBy g t fault size = Given (formed g) (bodyGiven g) t fault size
+
+abbrev pub PlaceBy : List ℕ → Addition → ℕ → ℕ → Type 0
+PlaceBy q g n size = Place q (formed g) (bodyGiven g) n size
+
+module _ (b q : List ℕ) (f : Bool) (x : Body) (t fault size : ℕ) (d : Given f x t fault size) (a : Answer) (e : (a, q) ≡ admitted b t fault size) where
+  admitted-given : (a, q) ≡ admitted b (typeOf x) (givenFault f x) (writtenSize x)
   admitted-given = e ∙ (λ i. admitted b (d .kind i) (d .faulty i) (d .wide i))
 
-  pub place : (n : ℕ) → a ≡ Done n → Place q g n size
+  pub place : (n : ℕ) → a ≡ Done n → Place q f x n size
   place n i =
       let o = done b q t fault size a e n i in
       let p = placed b t fault size n (o .0) in
@@ -80,30 +88,41 @@ module _ (b q : List ℕ) (g : Addition) (t fault size : ℕ) (d : Given g t fau
       let s = p .1 .within in
       record { within = omega arith; small = omega arith; wide = d .wide; sound = sym (d .faulty) ∙ p .1 .sound }
 
-  pub add-refused : (r : Refusal) → a ≡ Refused r → (a, q) ≡ added b g
-  unfolding added
-  add-refused r i = let k = kept b q (typeGiven g) (additionFault g) (sizeGiven g) a admitted-given r i in rw (i, k .0, k .1)
+  pub add-refused : (r : Refusal) → a ≡ Refused r → (a, q) ≡ addedMembers b f x
+  unfolding addedMembers
+  add-refused r i = let k = kept b q (typeOf x) (givenFault f x) (writtenSize x) a admitted-given r i in rw (i, k .0, k .1)
 
   -- the part from n on was lent, and came back with the attribute over its front
-  spliced : (p x : List ℕ) (n k : ℕ) → k ≡ length q - n → p ≡ over x (take k (drop n q)) → take n q ++ (p ++ drop k (drop n q)) ≡ replaced q n (length x) x
-  spliced p x n k h w =
+  spliced : (p y : List ℕ) (n k : ℕ) → k ≡ length q - n → p ≡ over y (take k (drop n q)) → take n q ++ (p ++ drop k (drop n q)) ≡ replaced q n (length y) y
+  spliced p y n k h w =
       let m : length (drop n q) ≤ k = simp length-drop (omega arith) in
       let u : take k (drop n q) ≡ drop n q = take-all k (drop n q) m in
       let v : drop k (drop n q) ≡ [] = drop-of-length-le (drop n q) m in
-      rw (w, u, v, append-nil, drop-drop (length x) n q) (sym (append-assoc (take n q) x (drop (n + length x) q)))
+      rw (w, u, v, append-nil, drop-drop (length y) n q) (sym (append-assoc (take n q) y (drop (n + length y) q)))
 
-  pub add-done : (p : List ℕ) (n k : ℕ) → a ≡ Done n → k ≡ length q - n → p ≡ over (bytesGiven g) (take k (drop n q))
-      → (Done (n + size), take n q ++ (p ++ drop k (drop n q))) ≡ added b g
-  unfolding added
+  pub add-done : (p : List ℕ) (n k : ℕ) → a ≡ Done n → k ≡ length q - n → p ≡ over (newBytes x) (take k (drop n q))
+      → (Done (n + size), take n q ++ (p ++ drop k (drop n q))) ≡ addedMembers b f x
+  unfolding addedMembers
   add-done p n k i h w =
-      let o = done b q (typeGiven g) (additionFault g) (sizeGiven g) a admitted-given n i in
-      rw (o .0) (λ j. (Done (n + d .wide j), (spliced p (bytesGiven g) n k h w ∙ (λ m. replaced (o .1 m) n (length (bytesGiven g)) (bytesGiven g))) j))
+      let o = done b q (typeOf x) (givenFault f x) (writtenSize x) a admitted-given n i in
+      rw (o .0) (λ j. (Done (n + d .wide j), (spliced p (newBytes x) n k h w ∙ (λ m. replaced (o .1 m) n (length (newBytes x)) (newBytes x))) j))
+
+-- members with a fault are refused, whatever else they are: only their type, fault and size are asked
+pub add-faulty : (b : List ℕ) (f g : Bool) (x y : Body) → typeOf x ≡ typeOf y → writtenSize x ≡ writtenSize y → givenFault f x ≡ givenFault g y
+    → (givenFault f x ≡ 0 → ⊥) → addedMembers b f x ≡ addedMembers b g y
+unfolding addedMembers
+add-faulty b f g x y t s e n =
+    ap (addedAt b x) (λ i. placement b (t i) (e i) (s i)) ∙ go (placement b (typeOf y) (givenFault g y) (writtenSize y)) refl
+  where
+    go : (p : Answer) → placement b (typeOf y) (givenFault g y) (writtenSize y) ≡ p → addedAt b x p ≡ addedAt b y p
+    go (Done m) q = absurd (n (e ∙ placed b _ _ _ m q .1 .sound))
+    go (Refused r) q = refl
 
 -- ---- an add to a buffer that holds a context
 -- the number that it gives
 abbrev pub faultOn : List ℕ → Context → Addition → ℕ
 faultOn b c g = placementFault (typesBefore b (storedCount b)) (roomOf b) (used c) (typeGiven g) (additionFault g) (sizeGiven g)
 
-pub added-held : (b : List ℕ) (c : Context) (g : Addition) → HeldBy 0 b c → added b g ≡ addedAt b g (orRefused (faultOn b c g) (used c) (Done (used c)))
-unfolding added placement
+pub added-held : (b : List ℕ) (c : Context) (g : Addition) → HeldBy 0 b c → added b g ≡ addedAt b (bodyGiven g) (orRefused (faultOn b c g) (used c) (Done (used c)))
+unfolding addedMembers placement
 added-held b c g h = rw (complete 0 b c (h .0) (h .1))

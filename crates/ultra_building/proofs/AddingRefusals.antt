@@ -19,7 +19,7 @@ use Rattle.ultra_format.specs.Plain.{writtenSize}
 use Rattle.ultra_format.specs.Places.{placeFault}
 use Rattle.ultra_format.specs.Records.{memberOfU64, memberOfU8}
 use Rattle.ultra_format.specs.Decoding.{storedType, storedCount, contextOf, typesBefore}
-use Rattle.ultra_format.specs.Additions.{Addition, bodyGiven, typeGiven, sizeGiven, formed, additionFault}
+use Rattle.ultra_format.specs.Additions.{Addition, bodyGiven, typeGiven, sizeGiven, formed, additionFault, givenFault}
 use Rattle.ultra_format.specs.Additions.{Addition.addPlatform, Addition.addKernel, Addition.addMap, Addition.addModule, Addition.addCommandLine, Addition.addFramebuffer}
 use Rattle.ultra_format.specs.declared.Refusal.{Refusal}
 use Rattle.ultra_format.specs.declared.Answer.{Answer}
@@ -39,7 +39,7 @@ use Rattle.ultra_acceptance.proofs.Acceptance.{accepts-exactly}
 use Rattle.ultra_acceptance.proofs.Least.{Chain, ends, try, past as beyond, link, then, settled}
 use Rattle.ultra_acceptance.proofs.Refusing.{refuses-exactly}
 use Rattle.ultra_acceptance.proofs.Rows.{Misplaced, Earlier, Repeated, Parted, place-chain}
-use Rattle.ultra_building.specs.Building.{placementFault, placement, added, addedAt}
+use Rattle.ultra_building.specs.Building.{placementFault, placement, added, addedAt, addedMembers}
 use Rattle.ultra_building.specs.AddingRefusals.{Occurs, Incomplete, AdditionBreaks, rank, FirstBroken, AddRefused, AddingRefuses, AddingSucceeds}
 use Rattle.ultra_building.specs.AddingRefusals.{AdditionBreaks.full, AdditionBreaks.first, AdditionBreaks.second, AdditionBreaks.later, AdditionBreaks.repeat, AdditionBreaks.split}
 use Rattle.ultra_building.specs.AddingRefusals.{AdditionBreaks.leftOver, AdditionBreaks.incomplete, AdditionBreaks.value, AdditionBreaks.text, AdditionBreaks.range, AdditionBreaks.order, AdditionBreaks.past}
@@ -195,7 +195,7 @@ module _ (b : List ℕ) (g : Addition) where
   on-order (order e) = e
 
   given-chain : Chain Row 12 17 (additionFault g)
-  unfolding additionFault bodyFault
+  unfolding givenFault bodyFault
   given-chain =
       try (formed g) (is-left-over (roomOf b) now g) (λ e.
       try (sizeSuits (sizeGiven g) (bodyGiven g)) (is-unsuited (roomOf b) now g) (λ q.
@@ -228,7 +228,7 @@ clash p q = absurd (let z : _≡_ {A = ℕ} 0 1 = cc in omega arith)
 
 module _ (b : List ℕ) (g : Addition) where
   unread : (r : Refusal) → usedLength 0 b ≡ Refused r → added b g .0 ≡ Refused r
-  unfolding added placement
+  unfolding addedMembers placement
   unread r e = rw e
 
   read-or : Bytes b → ((r : Refusal) × (usedLength 0 b ≡ Refused r)) ⊎ ((c : Context) × HeldBy 0 b c)
@@ -278,10 +278,10 @@ module _ (b : List ℕ) (g : Addition) where
 
   -- a refusal leaves the buffer as it was
   kept : (r : Refusal) → added b g .0 ≡ Refused r → added b g ≡ (Refused r, b)
-  unfolding added
+  unfolding addedMembers
   kept r e = go (placement b (typeGiven g) (additionFault g) (sizeGiven g)) e
     where
-      go : (p : Answer) → addedAt b g p .0 ≡ Refused r → addedAt b g p ≡ (Refused r, b)
+      go : (p : Answer) → addedAt b (bodyGiven g) p .0 ≡ Refused r → addedAt b (bodyGiven g) p ≡ (Refused r, b)
       go (Done m) w = absurd (let z : _≡_ {A = ℕ} 0 1 = cc in omega arith)
       go (Refused s) w = ap (λ (a : Answer). (a, b)) w
 

@@ -1,6 +1,7 @@
 -- What beginning and adding answer, and what they leave in the buffer.
 -- Assumes nothing.
 use Prim.Native.Nat.{ℕ, _+_}
+use mathlib.Core.Bool.{Bool}
 use mathlib.Core.List.{List, [], _∷_}
 use lib.ListN.{length}
 use lib.Dec.{leb, ltb}
@@ -11,7 +12,9 @@ use Rattle.ultra_format.specs.Answers.{refused, orRefused}
 use Rattle.ultra_format.specs.Layouts.{roomOf}
 use Rattle.ultra_format.specs.Places.{placeFault}
 use Rattle.ultra_format.specs.Decoding.{pick, storedCount, typesBefore}
-use Rattle.ultra_format.specs.Additions.{Addition, typeGiven, sizeGiven, bytesGiven, additionFault}
+use Rattle.ultra_format.specs.Contexts.{Body, typeOf}
+use Rattle.ultra_format.specs.Plain.{writtenSize}
+use Rattle.ultra_format.specs.Additions.{Addition, bodyGiven, formed, givenFault, newBytes}
 use Rattle.ultra_format.specs.declared.Answer.{Answer}
 use Rattle.ultra_format.specs.declared.Answer.the-variants.{Done, Refused}
 use Rattle.ultra_reading.specs.Reading.{usedLength}
@@ -60,13 +63,18 @@ unfoldable pub admitted : List ℕ → ℕ → ℕ → ℕ → Answer × List �
 admitted b t fault size = admittedAt b (placement b t fault size)
 
 -- "Success writes the body into the middle of the buffer, at the used length, raises the head's count by one and changes no other byte"
-abbrev pub withAttribute : List ℕ → ℕ → Addition → List ℕ
-withAttribute b n g = replaced (counted b) n (length (bytesGiven g)) (bytesGiven g)
+abbrev pub withAttribute : List ℕ → ℕ → Body → List ℕ
+withAttribute b n x = replaced (counted b) n (length (newBytes x)) (newBytes x)
 
 -- the answer, and the buffer afterwards: success answers the new used length, and a refusal changes nothing
-abbrev pub addedAt : List ℕ → Addition → Answer → Answer × List ℕ
-addedAt b g (Done n) = (Done (n + sizeGiven g), withAttribute b n g)
-addedAt b g (Refused r) = (Refused r, b)
+abbrev pub addedAt : List ℕ → Body → Answer → Answer × List ℕ
+addedAt b x (Done n) = (Done (n + writtenSize x), withAttribute b n x)
+addedAt b x (Refused r) = (Refused r, b)
 
-unfoldable pub added : List ℕ → Addition → Answer × List ℕ
-added b g = addedAt b g (placement b (typeGiven g) (additionFault g) (sizeGiven g))
+-- of members given, formed or not
+unfoldable pub addedMembers : List ℕ → Bool → Body → Answer × List ℕ
+addedMembers b formed x = addedAt b x (placement b (typeOf x) (givenFault formed x) (writtenSize x))
+
+-- of what an add is given
+abbrev pub added : List ℕ → Addition → Answer × List ℕ
+added b g = addedMembers b (formed g) (bodyGiven g)

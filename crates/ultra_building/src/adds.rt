@@ -1,8 +1,10 @@
-// The six adds. Each judges what it is given, has it admitted as one more attribute, and lends the part of the buffer from the used
-// length on to the body writer of its type.
+// The six adds of records, numbers and bytes. A record that has arrays is taken apart, its text without trailing zeros, for the adds of
+// members, which are those of the calls toward C too.
 ghost use mathlib.Core.Path.{_≡_};
 ghost use Rattle.ultra_format.specs.Additions.{Addition};
 ghost use Rattle.ultra_building.specs.Building.{added};
+use crate::late_members;
+use crate::members;
 use crate::place::admit;
 use ultra_format::Answer;
 use ultra_format::FramebufferRecord;
@@ -14,26 +16,48 @@ use ultra_format::PlatformRecord;
 pub fn add_platform(buf: &mut [u8], given: PlatformRecord) -> Answer
     ensures { λ r. ⌜ (r, now (buf .exit)) ≡ added (now (buf .entry)) (Addition.addPlatform given) ⌝ }
 {
-    let fault = ultra_given::platform::fault(given);
-    let answer = admit(buf, 1, fault, 88);
-    let Answer::Done(used) = answer else {
-        return answer;
-    };
-    ultra_writing::platform::write(&mut buf[used as usize..], given);
-    Answer::Done(used + 88)
+    let complete = late_members::complete(given);
+    let name = given.name;
+    let length = ultra_given::texts::trimmed_length(&name);
+    let base = given.higher_half_base;
+    let depth = given.depth;
+    let dtb = given.dtb;
+    let smbios = given.smbios;
+    members::add_platform(
+        buf,
+        complete,
+        given.kind,
+        given.loader_major,
+        given.loader_minor,
+        &name[0..length],
+        given.rsdp,
+        late_members::wide_number(base),
+        late_members::narrow_number(depth),
+        late_members::wide_number(dtb),
+        late_members::wide_number(smbios),
+    )
 }
 
 // Adds a kernel.
 pub fn add_kernel(buf: &mut [u8], given: KernelRecord) -> Answer
     ensures { λ r. ⌜ (r, now (buf .exit)) ≡ added (now (buf .entry)) (Addition.addKernel given) ⌝ }
 {
-    let fault = ultra_given::kernel::fault(given);
-    let answer = admit(buf, 2, fault, 336);
-    let Answer::Done(used) = answer else {
-        return answer;
-    };
-    ultra_writing::kernel::write(&mut buf[used as usize..], given);
-    Answer::Done(used + 336)
+    let disk = given.disk_guid;
+    let partition = given.partition_guid;
+    let path = given.path;
+    let length = ultra_given::texts::trimmed_length(&path);
+    members::add_kernel(
+        buf,
+        given.physical_base,
+        given.virtual_base,
+        given.size,
+        given.partition_type,
+        &disk,
+        &partition,
+        given.disk_index,
+        given.partition_index,
+        &path[0..length],
+    )
 }
 
 // Adds a memory map: an address, a size and a type for each entry.
@@ -54,13 +78,9 @@ pub fn add_map(buf: &mut [u8], numbers: &[u64]) -> Answer
 pub fn add_module(buf: &mut [u8], given: ModuleRecord) -> Answer
     ensures { λ r. ⌜ (r, now (buf .exit)) ≡ added (now (buf .entry)) (Addition.addModule given) ⌝ }
 {
-    let fault = ultra_given::module::fault(given);
-    let answer = admit(buf, 4, fault, 96);
-    let Answer::Done(used) = answer else {
-        return answer;
-    };
-    ultra_writing::module::write(&mut buf[used as usize..], given);
-    Answer::Done(used + 96)
+    let name = given.name;
+    let length = ultra_given::texts::trimmed_length(&name);
+    members::add_module(buf, given.kind, &name[0..length], given.address, given.size)
 }
 
 // Adds a command line: the text as it is, without a closing zero.

@@ -1,5 +1,7 @@
 // Beginning a context, and adding to it.
 mod adds;
+mod late_members;
+pub mod members;
 mod place;
 
 ghost use mathlib.Core.Path.{_≡_};

@@ -2,3 +2,4 @@ pub mod Every
 pub mod Judged
 pub mod Numbers
 pub mod Trimmed
+pub mod Paths

@@ -1,75 +1,46 @@
--- The text that an array gives, beside the one that reading finds there: they are the same where nothing but zeros stands behind the
--- first zero; elsewhere the text given holds a zero, so that no rule on texts lets it pass.
+-- The text that an array gives, from its end: a zero there is dropped, and any other byte ends the text.
 -- Assumes nothing.
-use Prim.Native.Nat.{ℕ, zero, suc, _+_}
+use Prim.Native.Nat.{ℕ, zero, suc, _-_, _≤_, _<_}
 use mathlib.Core.Path.{_≡_, refl, ap, sym, _∙_}
-use mathlib.Core.Bool.{true, false, and-false}
-use mathlib.Core.List.{List, [], _∷_}
+use mathlib.Core.List.{List, [], _∷_, _++_}
 use native.Mathlib.Omega.{arith}
-use lib.ListN.{length}
-use lib.Dec.{eqb·suc-zero}
-use Rattle.byte_layout.specs.Stored.{textAt}
-use Rattle.ultra_format.specs.Members.{every, nonzero, ascii, asciiText, pathText}
+use lib.ListN.{length, take, getD}
+use lib.Seq.{take-suc}
 use Rattle.ultra_format.specs.Records.{unlessTrailing, trimmed}
-use Rattle.ultra_given.specs.Closed.{textOf, isZero, closedText}
 
-text-behind : (x : ℕ) (l : List ℕ) (o k : ℕ) → textAt (x ∷ l) (suc o) k ≡ textAt l o k
-unfolding textAt
-text-behind x l o zero = refl
-text-behind x l o (suc k) = let q : suc o + 1 ≡ suc (o + 1) = omega arith in rw (q, text-behind x l (o + 1) k)
+trailing-zero : (l : List ℕ) → trimmed (l ++ (0 ∷ [])) ≡ trimmed l
+unfolding trimmed
+trailing-zero [] = refl
+trailing-zero (x ∷ l) = ap (unlessTrailing x) (trailing-zero l)
 
-closed-behind : (x : ℕ) (l : List ℕ) → closedText (suc x ∷ l) ≡ closedText l
-unfolding closedText textAt
-closed-behind x l = rw (text-behind (suc x) l 0 (length l))
+-- what is kept behind a byte that is not empty keeps the byte too
+kept : (x y : ℕ) (l m : List ℕ) → m ≡ l ++ (suc y ∷ []) → unlessTrailing x m ≡ x ∷ m
+kept zero y [] m e = rw e
+kept zero y (z ∷ l) m e = rw e
+kept (suc x) y l m e = refl
 
--- ---- closed
-zeros-trimmed : (l : List ℕ) → every isZero l ≡ true → trimmed l ≡ []
-unfolding every trimmed
-zeros-trimmed [] e = refl
-zeros-trimmed (zero ∷ l) e = ap (unlessTrailing 0) (zeros-trimmed l e)
-zeros-trimmed (suc x ∷ l) e = absurd (let z : _≡_ {A = ℕ} 0 1 = cc (eqb·suc-zero x) in omega arith)
+last-byte : (l : List ℕ) (y : ℕ) → trimmed (l ++ (suc y ∷ [])) ≡ l ++ (suc y ∷ [])
+unfolding trimmed
+last-byte [] y = refl
+last-byte (x ∷ l) y = kept x y l _ (last-byte l y) ∙ ap (λ (m : List ℕ). x ∷ m) (last-byte l y)
 
-pub closed-text : (l : List ℕ) → closedText l ≡ true → trimmed l ≡ textOf l
-unfolding closedText every trimmed textAt
-closed-text [] e = refl
-closed-text (zero ∷ l) e = zeros-trimmed (zero ∷ l) e
-closed-text (suc x ∷ l) e =
-    ap (λ (t : List ℕ). suc x ∷ t) (closed-text l (sym (closed-behind x l) ∙ e) ∙ sym (text-behind (suc x) l 0 (length l)))
+module _ (b : List ℕ) (n : ℕ) where
+  pub all-zeros : n ≤ 0 → trimmed (take n b) ≡ trimmed b → take 0 b ≡ trimmed b
+  unfolding trimmed
+  all-zeros h e = let q : n ≡ 0 = omega arith in rw q at e
 
--- ---- not closed
-none-kept : (x : ℕ) (t : List ℕ) → unlessTrailing x t ≡ [] → (x ≡ 0) × (t ≡ [])
-none-kept zero [] e = (refl, refl)
-none-kept zero (y ∷ t) e = absurd (let z : _≡_ {A = ℕ} 0 1 = cc in omega arith)
-none-kept (suc x) t e = absurd (let z : _≡_ {A = ℕ} 0 1 = cc in omega arith)
+  module _ (h : 0 < n) (l : n ≤ length b) where
+    one-more : take n b ≡ take (n - 1) b ++ (getD b (n - 1) 0 ∷ [])
+    one-more = let q : n ≡ suc (n - 1) = omega arith in ap (λ (k : ℕ). take k b) q ∙ take-suc b (n - 1) 0 (omega arith)
 
-trimmed-zeros : (l : List ℕ) → trimmed l ≡ [] → every isZero l ≡ true
-unfolding every trimmed
-trimmed-zeros [] e = refl
-trimmed-zeros (x ∷ l) e = let k = none-kept x (trimmed l) e in rw (k .0, trimmed-zeros l (k .1))
+    pub zero-dropped : getD b (n - 1) 0 ≡ 0 → trimmed (take n b) ≡ trimmed (take (n - 1) b)
+    zero-dropped e = ap trimmed (one-more ∙ ap (λ (x : ℕ). take (n - 1) b ++ (x ∷ [])) e) ∙ trailing-zero (take (n - 1) b)
 
--- a zero that is kept stands before another byte
-zero-kept : (t : List ℕ) → (t ≡ [] → ⊥) → every nonzero (unlessTrailing 0 t) ≡ false
-unfolding every
-zero-kept [] n = absurd (n refl)
-zero-kept (y ∷ t) n = refl
-
-holds-zero : (l : List ℕ) → closedText l ≡ false → every nonzero (trimmed l) ≡ false
-unfolding closedText every trimmed textAt
-holds-zero [] e = absurd (let z : _≡_ {A = ℕ} 0 1 = cc in omega arith)
-holds-zero (zero ∷ l) e = zero-kept (trimmed l) (λ q. let z : _≡_ {A = ℕ} 0 1 = cc (trimmed-zeros l q) in omega arith)
-holds-zero (suc x ∷ l) e = simp (eqb·suc-zero x) (holds-zero l (sym (closed-behind x l) ∙ e))
-
-zero-not-ascii : (t : List ℕ) → every nonzero t ≡ false → every ascii t ≡ false
-unfolding every
-zero-not-ascii [] e = e
-zero-not-ascii (zero ∷ t) e = refl
-zero-not-ascii (suc x ∷ t) e = simp (zero-not-ascii t (simp (eqb·suc-zero x) at e), and-false)
-
-module _ (k : ℕ) (l : List ℕ) (e : closedText l ≡ false) where
-  pub open-ascii : asciiText k (trimmed l) ≡ false
-  unfolding asciiText
-  open-ascii = simp (zero-not-ascii (trimmed l) (holds-zero l e), and-false)
-
-  pub open-path : pathText k (trimmed l) ≡ false
-  unfolding pathText
-  open-path = simp (holds-zero l e, and-false)
+    pub last-kept : (getD b (n - 1) 0 ≡ 0 → ⊥) → trimmed (take n b) ≡ take n b
+    last-kept e = go (getD b (n - 1) 0) refl
+      where
+        go : (x : ℕ) → getD b (n - 1) 0 ≡ x → trimmed (take n b) ≡ take n b
+        go zero q = absurd (e q)
+        go (suc y) q =
+            let w : take n b ≡ take (n - 1) b ++ (suc y ∷ []) = one-more ∙ ap (λ (x : ℕ). take (n - 1) b ++ (x ∷ [])) q in
+            ap trimmed w ∙ last-byte (take (n - 1) b) y ∙ sym w

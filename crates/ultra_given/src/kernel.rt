@@ -1,8 +1,17 @@
 ghost use mathlib.Core.Path.{_≡_};
-ghost use mathlib.Core.Bool.{_&&_};
-ghost use Rattle.ultra_format.specs.Members.{rangeFits};
-ghost use Rattle.ultra_format.specs.Additions.{Addition, additionFault};
-use ultra_format::KernelRecord;
+ghost use mathlib.Core.Bool.{true, _&&_};
+ghost use Rattle.ultra_format.specs.Members.{kernelValues, pathText, rangeFits, memberFault};
+ghost use Rattle.ultra_format.specs.Additions.{guidsFormed};
+
+// "12 for .. a GUID not of 16"
+fn guids_formed(disk: &[u8], partition: &[u8]) -> bool
+    ensures { λ r. ⌜ r ≡ guidsFormed (now (disk .entry)) (now (partition .entry)) ⌝ }
+{
+    if disk.len() != 16 {
+        return false;
+    }
+    partition.len() == 16
+}
 
 fn both_fit(phys: u64, virt: u64, size: u64) -> bool
     ensures { λ r. ⌜ r ≡ (rangeFits phys size && rangeFits virt size) ⌝ }
@@ -13,15 +22,21 @@ fn both_fit(phys: u64, virt: u64, size: u64) -> bool
     ultra_members::ranges::fits(virt, size)
 }
 
-pub fn fault(given: KernelRecord) -> u32
-    ensures { λ r. ⌜ r ≡ additionFault (Addition.addKernel given) ⌝ }
+// Only these members have rules.
+pub fn fault(
+    phys: u64,
+    virt: u64,
+    size: u64,
+    partition_type: u64,
+    disk: &[u8],
+    partition: &[u8],
+    path: &[u8],
+) -> u32
+    ensures { λ r. ⌜ r ≡ memberFault (guidsFormed (now (disk .entry)) (now (partition .entry))) (kernelValues phys virt size «partition_type») (pathText 256 (now (path .entry))) (rangeFits phys size && rangeFits virt size) true ⌝ }
 {
-    let phys = given.physical_base;
-    let virt = given.virtual_base;
-    let size = given.size;
-    let path = given.path;
-    let value = ultra_members::values::kernel(phys, virt, size, given.partition_type);
-    let text = crate::texts::path(&path);
+    let form = guids_formed(disk, partition);
+    let value = ultra_members::values::kernel(phys, virt, size, partition_type);
+    let text = crate::texts::path(path);
     let range = both_fit(phys, virt, size);
-    crate::first_broken(true, value, text, range, true)
+    crate::first_broken(form, value, text, range, true)
 }

@@ -6,7 +6,7 @@ pub mod kernel;
 pub mod map;
 pub mod module;
 pub mod platform;
-mod texts;
+pub mod texts;
 
 ghost use mathlib.Core.Path.{_≡_};
 ghost use Rattle.ultra_format.specs.Members.{memberFault};

@@ -2,7 +2,7 @@
 // entry, so the loops pass them by; `fault` answers for them before all else.
 ghost use mathlib.Core.Path.{_≡_};
 ghost use Rattle.ultra_format.specs.Members.{every, entryTyped, entryFits, entriesOrdered};
-ghost use Rattle.ultra_format.specs.Additions.{Addition, entriesGiven, additionFault};
+ghost use Rattle.ultra_format.specs.Additions.{Addition, entriesGiven, mapOf, mapFormed, givenFault, additionFault};
 
 fn all_typed(numbers: &[u64]) -> bool
     ensures { λ r. ⌜ r ≡ every entryTyped (entriesGiven (now (numbers .entry))) ⌝ }
@@ -57,4 +57,14 @@ pub fn fault(numbers: &[u64]) -> u32
     let range = all_fit(numbers);
     let order = all_ordered(numbers);
     crate::first_broken(form, value, true, range, order)
+}
+
+// The same of a map given as bytes: "12 for a map not of 24n bytes".
+pub fn bytes_fault(entries: &[u8]) -> u32
+    ensures { λ r. ⌜ r ≡ givenFault (mapFormed (now (entries .entry))) (mapOf (now (entries .entry))) ⌝ }
+{
+    if entries.len() % 24 != 0 {
+        return ultra_format::FORM;
+    }
+    ultra_members::map::entries_fault(entries, 0, entries.len() / 24)
 }

@@ -1,21 +1,12 @@
 ghost use mathlib.Core.Path.{_≡_};
-ghost use Rattle.ultra_format.specs.Members.{asciiText};
-ghost use Rattle.ultra_format.specs.Records.{trimmed};
-ghost use Rattle.ultra_format.specs.Additions.{Addition, additionFault};
-use ultra_format::ModuleRecord;
+ghost use mathlib.Core.Bool.{true};
+ghost use Rattle.ultra_format.specs.Members.{moduleValues, asciiText, rangeFits, memberFault};
 
-fn name_fits(name: &[u8; 64]) -> bool
-    ensures { λ r. ⌜ r ≡ asciiText 64 (trimmed (now (name .entry))) ⌝ }
+pub fn fault(kind: u32, name: &[u8], address: u64, size: u64) -> u32
+    ensures { λ r. ⌜ r ≡ memberFault true (moduleValues kind address) (asciiText 64 (now (name .entry))) (rangeFits address size) true ⌝ }
 {
-    crate::texts::ascii(name)
-}
-
-pub fn fault(given: ModuleRecord) -> u32
-    ensures { λ r. ⌜ r ≡ additionFault (Addition.addModule given) ⌝ }
-{
-    let name = given.name;
-    let value = ultra_members::values::module(given.kind, given.address);
-    let text = name_fits(&name);
-    let range = ultra_members::ranges::fits(given.address, given.size);
+    let value = ultra_members::values::module(kind, address);
+    let text = crate::texts::ascii(name, 64);
+    let range = ultra_members::ranges::fits(address, size);
     crate::first_broken(true, value, text, range, true)
 }

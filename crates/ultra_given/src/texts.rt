@@ -1,43 +1,9 @@
-// Texts given: an array's text is all of it but its trailing zeros; a command line is its bytes as they are.
+// Texts given, as their bytes; the text that an array gives is all of it but its trailing zeros.
 ghost use mathlib.Core.Path.{_≡_};
-ghost use lib.ListN.{length};
+ghost use Prim.Native.Nat.{_≤_};
+ghost use lib.ListN.{length, take};
 ghost use Rattle.ultra_format.specs.Members.{every, ascii, asciiText, pathText};
 ghost use Rattle.ultra_format.specs.Records.{trimmed};
-ghost use Rattle.ultra_given.specs.Closed.{closedText};
-
-// Whether nothing but zeros stands behind the first zero: the array's text is then the one that reading finds there.
-fn closed(bytes: &[u8]) -> bool
-    ensures { λ r. ⌜ r ≡ closedText (now (bytes .entry)) ⌝ }
-{
-    let mut i = byte_layout::text_length(bytes, 0, bytes.len());
-    while i < bytes.len() {
-        if bytes[i] != 0 {
-            return false;
-        }
-        i += 1;
-    }
-    true
-}
-
-// Whether an array gives a text of bytes 1 to 127 that leaves a place for its closing zero.
-pub fn ascii(bytes: &[u8]) -> bool
-    ensures { λ r. ⌜ r ≡ asciiText (length (now (bytes .entry))) (trimmed (now (bytes .entry))) ⌝ }
-{
-    if !closed(bytes) {
-        return false;
-    }
-    ultra_members::texts::ascii(bytes, 0, bytes.len())
-}
-
-// Whether an array gives a path that leaves a place for its closing zero.
-pub fn path(bytes: &[u8; 256]) -> bool
-    ensures { λ r. ⌜ r ≡ pathText 256 (trimmed (now (bytes .entry))) ⌝ }
-{
-    if !closed(bytes) {
-        return false;
-    }
-    ultra_members::texts::path(bytes, 0, 256)
-}
 
 // Whether every byte is one of 1 to 127.
 pub fn all_ascii(bytes: &[u8]) -> bool
@@ -55,4 +21,45 @@ pub fn all_ascii(bytes: &[u8]) -> bool
         i += 1;
     }
     true
+}
+
+// Whether the text has bytes 1 to 127 only and leaves a place for its closing zero in a field of `width` bytes.
+pub fn ascii(text: &[u8], width: usize) -> bool
+    ensures { λ r. ⌜ r ≡ asciiText width (now (text .entry)) ⌝ }
+{
+    if width <= text.len() {
+        return false;
+    }
+    all_ascii(text)
+}
+
+// Whether the text is a path that leaves a place for its closing zero.
+pub fn path(text: &[u8]) -> bool
+    ensures { λ r. ⌜ r ≡ pathText 256 (now (text .entry)) ⌝ }
+{
+    let length = text.len();
+    if 256 <= length {
+        return false;
+    }
+    if length == 0 {
+        return false;
+    }
+    if text[0] != b'/' {
+        return false;
+    }
+    byte_layout::text_length(text, 0, length) == length
+}
+
+// How long the text is that an array gives.
+pub fn trimmed_length(bytes: &[u8]) -> usize
+    ensures { λ r. ⌜ (r ≤ length (now (bytes .entry))) × (take r (now (bytes .entry)) ≡ trimmed (now (bytes .entry))) ⌝ }
+{
+    let mut n = bytes.len();
+    while 0 < n {
+        if bytes[n - 1] != 0 {
+            return n;
+        }
+        n -= 1;
+    }
+    0
 }

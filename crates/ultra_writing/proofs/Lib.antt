@@ -1,5 +1,2 @@
-pub mod Begun
-pub mod Arrays
-pub mod Present
 pub mod Entries
 pub mod Line

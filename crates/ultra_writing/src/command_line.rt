@@ -19,7 +19,5 @@ pub fn write(part: &mut [u8], text: &[u8])
 {
     let whole = size(text);
     crate::header(part, 5, whole as u32);
-    byte_layout::store(text, part, 8);
-    let end = 8 + text.len();
-    byte_layout::clear(part, end, whole - end);
+    crate::store_padded(part, 8, whole - 8, text);
 }

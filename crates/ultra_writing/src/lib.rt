@@ -1,5 +1,6 @@
 // The bytes of a new attribute, written over the front of a lent part of the buffer: a body writer a type. What is written is one
-// definition for all types, `bytesGiven` of ultra_format/specs/Additions.antt; silent bytes are zero.
+// definition for all types, `newBytes` of ultra_format/specs/Additions.antt; silent bytes are zero. Members come one by one and texts as
+// slices, so that a call from C puts no record with texts on the stack; a framebuffer, numbers only, is its record.
 pub mod command_line;
 pub mod framebuffer;
 pub mod kernel;
@@ -8,9 +9,10 @@ pub mod module;
 pub mod platform;
 
 ghost use mathlib.Core.Path.{_≡_};
-ghost use Prim.Native.Nat.{_≤_};
+ghost use Prim.Native.Nat.{_+_, _≤_};
 ghost use lib.ListN.{length};
-ghost use Rattle.byte_layout.specs.Fields.{cells, filled};
+ghost use Rattle.words.specs.Words.{replaced};
+ghost use Rattle.byte_layout.specs.Fields.{padded, cells, filled};
 ghost use Rattle.byte_layout.specs.Stored.{over};
 ghost use Rattle.ultra_writing.specs.Leading.{headerFields};
 
@@ -21,4 +23,14 @@ fn header(part: &mut [u8], kind: u32, size: u32)
 {
     words::store_u32(part, 0, kind);
     words::store_u32(part, 4, size);
+}
+
+// Bytes in their field of `width` bytes from `at` on, with zeros behind them.
+fn store_padded(part: &mut [u8], at: usize, width: usize, bytes: &[u8])
+    requires { ⌜ (at + width ≤ length (now part)) × (length (now bytes) ≤ width) ⌝ }
+    ensures { λ _. ⌜ now (part .exit) ≡ replaced (now (part .entry)) at width (padded width (now (bytes .entry))) ⌝ }
+{
+    byte_layout::store(bytes, part, at);
+    let n = bytes.len();
+    byte_layout::clear(part, at + n, width - n);
 }

@@ -6,20 +6,20 @@ use borrow.Author.Needs.{needs}
 use denote.Ref.{now}
 use Rattle.ultra_format.specs.Additions.{bodyGiven}
 use Rattle.ultra_format.specs.Additions.{Addition.addCommandLine}
-use Rattle.ultra_building.proofs.Adding.{Given, Place, place, add-refused, add-done}
+use Rattle.ultra_building.proofs.Adding.{GivenBy, PlaceBy, place, add-refused, add-done}
 use Rattle.ultra_building.proofs.adds.add_command_line.Statement.{statement}
 use Rattle.ultra_building.proofs.adds.add_command_line.Tie as tie
 
-given : (c : tie.After-size) → Given (addCommandLine (now (c .before .before .before .before .args .text))) 5 (c .before .fault .result) (c .size .result)
+given : (c : tie.After-size) → GivenBy (addCommandLine (now (c .before .before .before .before .args .text))) 5 (c .before .fault .result) (c .size .result)
 unfolding bodyGiven
 given c = record { kind = refl; faulty = c .before .fault .ensures; wide = c .size .ensures }
 
 here : (c : tie.After-known-told)
     → let z = c .before .before .before .before .before .before .before in
-    Place (c .before .before .before .before .before .admit .last .0) (addCommandLine (now (z .before .before .before .before .args .text))) (c .before .answer .given .0 .0) (z .size .result)
+    PlaceBy (c .before .before .before .before .before .admit .last .0) (addCommandLine (now (z .before .before .before .before .args .text))) (c .before .answer .given .0 .0) (z .size .result)
 here c =
     let o = c .before .before .before .before .before in
-    place _ _ _ _ _ _ (given (o .before .before)) _ (o .admit .ensures) _ (c .before .answer .given .1)
+    place _ _ _ _ _ _ _ (given (o .before .before)) _ (o .admit .ensures) _ (c .before .answer .given .1)
 
 fault-requires : tie.Need-fault-requires
 fault-requires c κs = search needs
@@ -42,7 +42,7 @@ same-length c = search needs
 returns : tie.Need-returns
 returns c =
     let o = c .before .before .before .before in
-    add-refused _ _ _ _ _ _ (given (o .before .before)) _ (o .admit .ensures) _ (c .enum-told .given .1)
+    add-refused _ _ _ _ _ _ _ (given (o .before .before)) _ (o .admit .ensures) _ (c .enum-told .given .1)
 
 cast-write : tie.Need-cast-write
 cast-write c = search needs
@@ -73,7 +73,7 @@ returns-2 c =
     let w = c .before .before in
     let k = w .before .before in
     let o = k .before .before .before .before .before in
-    add-done _ _ _ _ _ _ (given (o .before .before)) _ (o .admit .ensures) _ _ _ (k .before .answer .given .1) refl (w .write .ensures)
+    add-done _ _ _ _ _ _ _ (given (o .before .before)) _ (o .admit .ensures) _ _ _ (k .before .answer .given .1) refl (w .write .ensures)
 
 pub add-command-line-spec : {M : Type 1} → statement M
 add-command-line-spec =

@@ -6,19 +6,19 @@ use borrow.Author.Needs.{needs}
 use Rattle.ultra_format.specs.Plain.{writtenSize}
 use Rattle.ultra_format.specs.Additions.{bodyGiven}
 use Rattle.ultra_format.specs.Additions.{Addition.addFramebuffer}
-use Rattle.ultra_building.proofs.Adding.{Given, Place, place, add-refused, add-done}
+use Rattle.ultra_building.proofs.Adding.{GivenBy, PlaceBy, place, add-refused, add-done}
 use Rattle.ultra_building.proofs.adds.add_framebuffer.Statement.{statement}
 use Rattle.ultra_building.proofs.adds.add_framebuffer.Tie as tie
 
-given : (c : tie.After-fault) → Given (addFramebuffer (c .before .before .args .given)) 6 (c .fault .result) 32
+given : (c : tie.After-fault) → GivenBy (addFramebuffer (c .before .before .args .given)) 6 (c .fault .result) 32
 unfolding bodyGiven writtenSize
 given c = record { kind = refl; faulty = c .fault .ensures; wide = refl }
 
 here : (c : tie.After-known-told)
-    → Place (c .before .before .before .before .before .admit .last .0) (addFramebuffer (c .before .before .before .before .before .before .before .before .before .args .given)) (c .before .answer .given .0 .0) 32
+    → PlaceBy (c .before .before .before .before .before .admit .last .0) (addFramebuffer (c .before .before .before .before .before .before .before .before .before .args .given)) (c .before .answer .given .0 .0) 32
 here c =
     let o = c .before .before .before .before .before in
-    place _ _ _ _ _ _ (given (o .before .before)) _ (o .admit .ensures) _ (c .before .answer .given .1)
+    place _ _ _ _ _ _ _ (given (o .before .before)) _ (o .admit .ensures) _ (c .before .answer .given .1)
 
 fault-requires : tie.Need-fault-requires
 fault-requires c κs = search needs
@@ -38,7 +38,7 @@ same-length c = search needs
 returns : tie.Need-returns
 returns c =
     let o = c .before .before .before .before in
-    add-refused _ _ _ _ _ _ (given (o .before .before)) _ (o .admit .ensures) _ (c .enum-told .given .1)
+    add-refused _ _ _ _ _ _ _ (given (o .before .before)) _ (o .admit .ensures) _ (c .enum-told .given .1)
 
 cast-write : tie.Need-cast-write
 cast-write c = search needs
@@ -66,7 +66,7 @@ returns-2 c =
     let w = c .before .before in
     let k = w .before .before in
     let o = k .before .before .before .before .before in
-    add-done _ _ _ _ _ _ (given (o .before .before)) _ (o .admit .ensures) _ _ _ (k .before .answer .given .1) refl (w .write .ensures)
+    add-done _ _ _ _ _ _ _ (given (o .before .before)) _ (o .admit .ensures) _ _ _ (k .before .answer .given .1) refl (w .write .ensures)
 
 pub add-framebuffer-spec : {M : Type 1} → statement M
 add-framebuffer-spec =

@@ -1,88 +1,74 @@
--- `ultra_building::adds::add_kernel` meets its contract.
+-- `ultra_building::adds::add_kernel` meets its contract: the members are those of the record.
 -- Assumes nothing.
-use mathlib.Core.Path.{refl}
-use native.Mathlib.Omega.{arith}
+use mathlib.Core.Path.{_≡_, ap, _∙_}
+use denote.Ref.{now}
+use lib.ListN.{length}
+use borrow.Author.Tests.{eq-eqb}
+use Rattle.ultra_format.specs.Additions.{kernelOf, bodyGiven, guidsFormed}
+use mathlib.Core.Bool.{true}
+use mathlib.Core.List.{List}
+use Prim.Native.Nat.{ℕ}
+use Rattle.ultra_building.specs.Building.{addedMembers}
+use Rattle.ultra_building.proofs.GivenRecords.{text-part}
 use borrow.Author.Needs.{needs}
-use Rattle.ultra_format.specs.Plain.{writtenSize}
-use Rattle.ultra_format.specs.Additions.{bodyGiven}
-use Rattle.ultra_format.specs.Additions.{Addition.addKernel}
-use Rattle.ultra_building.proofs.Adding.{Given, Place, place, add-refused, add-done}
 use Rattle.ultra_building.proofs.adds.add_kernel.Statement.{statement}
 use Rattle.ultra_building.proofs.adds.add_kernel.Tie as tie
 
-given : (c : tie.After-fault) → Given (addKernel (c .before .before .args .given)) 2 (c .fault .result) 336
-unfolding bodyGiven writtenSize
-given c = record { kind = refl; faulty = c .fault .ensures; wide = refl }
+formed : (c : tie.Start) → guidsFormed (c .args .given .«disk_guid») (c .args .given .«partition_guid») ≡ true
+formed c =
+    let d : length (c .args .given .«disk_guid») ≡ 16 = search needs in
+    let p : length (c .args .given .«partition_guid») ≡ 16 = search needs in
+    rw (d, p)
 
-here : (c : tie.After-known-told)
-    → Place (c .before .before .before .before .before .admit .last .0) (addKernel (c .before .before .before .before .before .before .before .before .before .args .given)) (c .before .answer .given .0 .0) 336
-here c =
-    let o = c .before .before .before .before .before in
-    place _ _ _ _ _ _ (given (o .before .before)) _ (o .admit .ensures) _ (c .before .answer .given .1)
+slice-aggregate-trimmed-length : tie.Need-slice-aggregate-trimmed-length
+slice-aggregate-trimmed-length c = search needs
 
-fault-requires : tie.Need-fault-requires
-fault-requires c κs = search needs
+trimmed-length-requires : tie.Need-trimmed-length-requires
+trimmed-length-requires c κs = search needs
 
-admit-requires : tie.Need-admit-requires
-admit-requires c κs = search needs
+slice-aggregate-add-kernel : tie.Need-slice-aggregate-add-kernel
+slice-aggregate-add-kernel c = search needs
 
-enum-known-answer : tie.Need-enum-known-answer
-enum-known-answer c = search needs
+slice-aggregate-add-kernel-2 : tie.Need-slice-aggregate-add-kernel-2
+slice-aggregate-add-kernel-2 c = search needs
 
-enum-told : tie.Need-enum-told
-enum-told c = search needs
+sub-add-kernel : tie.Need-sub-add-kernel
+sub-add-kernel c = search needs
+
+part-add-kernel-start : tie.Need-part-add-kernel-start
+part-add-kernel-start c = search needs
+
+part-add-kernel-end : tie.Need-part-add-kernel-end
+part-add-kernel-end c = search needs
+
+add-kernel-requires : tie.Need-add-kernel-requires
+add-kernel-requires c κs = search needs
 
 same-length : tie.Need-same-length
 same-length c = search needs
 
 returns : tie.Need-returns
+unfolding bodyGiven
 returns c =
-    let o = c .before .before .before .before in
-    add-refused _ _ _ _ _ _ (given (o .before .before)) _ (o .admit .ensures) _ (c .enum-told .given .1)
-
-cast-write : tie.Need-cast-write
-cast-write c = search needs
-
-sub-write : tie.Need-sub-write
-sub-write c = omega (arith, here c)
-
-part-write-start : tie.Need-part-write-start
-part-write-start c = omega (arith, here c)
-
-part-write-end : tie.Need-part-write-end
-part-write-end c = search needs
-
-write-requires : tie.Need-write-requires
-write-requires c κs = omega (arith, here (c .before))
-
-add-t14 : tie.Need-add-t14
-add-t14 c = omega (arith, here (c .before .before .before .before))
-
-same-length-2 : tie.Need-same-length-2
-same-length-2 c = search needs
-
-returns-2 : tie.Need-returns-2
-returns-2 c =
     let w = c .before .before in
-    let k = w .before .before in
-    let o = k .before .before .before .before .before in
-    add-done _ _ _ _ _ _ (given (o .before .before)) _ (o .admit .ensures) _ _ _ (k .before .answer .given .1) refl (w .write .ensures)
+    let t = w .before .before .before .before .before .before in
+    let a = t .before .before .before .before .before .before .args in
+    let g = a .given in
+    let f = formed (t .before .before .before .before .before .before) in
+    w .add-kernel .ensures
+    ∙ (λ i. addedMembers (now (a .buf)) (f i) (kernelOf (g .«physical_base») (g .«virtual_base») (g .size) (g .«partition_type») (g .«disk_guid») (g .«partition_guid») (g .«disk_index») (g .«partition_index») (text-part (g .path) (t .trimmed-length .result) (t .trimmed-length .ensures .1) i)))
 
 pub add-kernel-spec : {M : Type 1} → statement M
 add-kernel-spec =
     tie.close
     (tie.spec
-    fault-requires
-    admit-requires
-    enum-known-answer
-    enum-told
+    slice-aggregate-trimmed-length
+    trimmed-length-requires
+    slice-aggregate-add-kernel
+    slice-aggregate-add-kernel-2
+    sub-add-kernel
+    part-add-kernel-start
+    part-add-kernel-end
+    add-kernel-requires
     same-length
-    returns
-    cast-write
-    sub-write
-    part-write-start
-    part-write-end
-    write-requires
-    add-t14
-    same-length-2
-    returns-2)
+    returns)

@@ -7,20 +7,20 @@ use borrow.Author.Tests.{eqb-true}
 use denote.Ref.{now}
 use Rattle.ultra_format.specs.Additions.{bodyGiven}
 use Rattle.ultra_format.specs.Additions.{Addition.addMap}
-use Rattle.ultra_building.proofs.Adding.{given-holds, Given, Place, place, add-refused, add-done}
+use Rattle.ultra_building.proofs.Adding.{given-holds, GivenBy, PlaceBy, place, add-refused, add-done}
 use Rattle.ultra_building.proofs.adds.add_map.Statement.{statement}
 use Rattle.ultra_building.proofs.adds.add_map.Tie as tie
 
-given : (c : tie.After-size) → Given (addMap (now (c .before .before .before .before .args .numbers))) 3 (c .before .fault .result) (c .size .result)
+given : (c : tie.After-size) → GivenBy (addMap (now (c .before .before .before .before .args .numbers))) 3 (c .before .fault .result) (c .size .result)
 unfolding bodyGiven
 given c = record { kind = refl; faulty = c .before .fault .ensures; wide = c .size .ensures }
 
 here : (c : tie.After-known-told)
     → let z = c .before .before .before .before .before .before .before in
-    Place (c .before .before .before .before .before .admit .last .0) (addMap (now (z .before .before .before .before .args .numbers))) (c .before .answer .given .0 .0) (z .size .result)
+    PlaceBy (c .before .before .before .before .before .admit .last .0) (addMap (now (z .before .before .before .before .args .numbers))) (c .before .answer .given .0 .0) (z .size .result)
 here c =
     let o = c .before .before .before .before .before in
-    place _ _ _ _ _ _ (given (o .before .before)) _ (o .admit .ensures) _ (c .before .answer .given .1)
+    place _ _ _ _ _ _ _ (given (o .before .before)) _ (o .admit .ensures) _ (c .before .answer .given .1)
 
 fault-requires : tie.Need-fault-requires
 fault-requires c κs = search needs
@@ -43,7 +43,7 @@ same-length c = search needs
 returns : tie.Need-returns
 returns c =
     let o = c .before .before .before .before in
-    add-refused _ _ _ _ _ _ (given (o .before .before)) _ (o .admit .ensures) _ (c .enum-told .given .1)
+    add-refused _ _ _ _ _ _ _ (given (o .before .before)) _ (o .admit .ensures) _ (c .enum-told .given .1)
 
 cast-write : tie.Need-cast-write
 cast-write c = search needs
@@ -60,7 +60,7 @@ part-write-end c = search needs
 write-requires : tie.Need-write-requires
 write-requires c κs =
     let h = here (c .before) in
-    (omega arith, (eqb-true _ 0 (given-holds _ (h .sound) .0), omega arith))
+    (omega arith, (eqb-true _ 0 (given-holds _ _ (h .sound) .0), omega arith))
 
 cast-t15 : tie.Need-cast-t15
 cast-t15 c = omega (arith, here (c .before .before .before .before))
@@ -76,7 +76,7 @@ returns-2 c =
     let w = c .before .before in
     let k = w .before .before in
     let o = k .before .before .before .before .before in
-    add-done _ _ _ _ _ _ (given (o .before .before)) _ (o .admit .ensures) _ _ _ (k .before .answer .given .1) refl (w .write .ensures)
+    add-done _ _ _ _ _ _ _ (given (o .before .before)) _ (o .admit .ensures) _ _ _ (k .before .answer .given .1) refl (w .write .ensures)
 
 pub add-map-spec : {M : Type 1} → statement M
 add-map-spec =

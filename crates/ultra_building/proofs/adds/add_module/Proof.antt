@@ -1,88 +1,56 @@
--- `ultra_building::adds::add_module` meets its contract.
+-- `ultra_building::adds::add_module` meets its contract: the members are those of the record.
 -- Assumes nothing.
-use mathlib.Core.Path.{refl}
-use native.Mathlib.Omega.{arith}
+use mathlib.Core.Path.{ap, _∙_}
+use denote.Ref.{now}
+use Rattle.ultra_format.specs.Additions.{moduleOf, bodyGiven}
+use mathlib.Core.Bool.{true}
+use mathlib.Core.List.{List}
+use Prim.Native.Nat.{ℕ}
+use Rattle.ultra_building.specs.Building.{addedMembers}
+use Rattle.ultra_building.proofs.GivenRecords.{text-part}
 use borrow.Author.Needs.{needs}
-use Rattle.ultra_format.specs.Plain.{writtenSize}
-use Rattle.ultra_format.specs.Additions.{bodyGiven}
-use Rattle.ultra_format.specs.Additions.{Addition.addModule}
-use Rattle.ultra_building.proofs.Adding.{Given, Place, place, add-refused, add-done}
 use Rattle.ultra_building.proofs.adds.add_module.Statement.{statement}
 use Rattle.ultra_building.proofs.adds.add_module.Tie as tie
 
-given : (c : tie.After-fault) → Given (addModule (c .before .before .args .given)) 4 (c .fault .result) 96
-unfolding bodyGiven writtenSize
-given c = record { kind = refl; faulty = c .fault .ensures; wide = refl }
+slice-aggregate-trimmed-length : tie.Need-slice-aggregate-trimmed-length
+slice-aggregate-trimmed-length c = search needs
 
-here : (c : tie.After-known-told)
-    → Place (c .before .before .before .before .before .admit .last .0) (addModule (c .before .before .before .before .before .before .before .before .before .args .given)) (c .before .answer .given .0 .0) 96
-here c =
-    let o = c .before .before .before .before .before in
-    place _ _ _ _ _ _ (given (o .before .before)) _ (o .admit .ensures) _ (c .before .answer .given .1)
+trimmed-length-requires : tie.Need-trimmed-length-requires
+trimmed-length-requires c κs = search needs
 
-fault-requires : tie.Need-fault-requires
-fault-requires c κs = search needs
+sub-add-module : tie.Need-sub-add-module
+sub-add-module c = search needs
 
-admit-requires : tie.Need-admit-requires
-admit-requires c κs = search needs
+part-add-module-start : tie.Need-part-add-module-start
+part-add-module-start c = search needs
 
-enum-known-answer : tie.Need-enum-known-answer
-enum-known-answer c = search needs
+part-add-module-end : tie.Need-part-add-module-end
+part-add-module-end c = search needs
 
-enum-told : tie.Need-enum-told
-enum-told c = search needs
+add-module-requires : tie.Need-add-module-requires
+add-module-requires c κs = search needs
 
 same-length : tie.Need-same-length
 same-length c = search needs
 
 returns : tie.Need-returns
+unfolding bodyGiven
 returns c =
-    let o = c .before .before .before .before in
-    add-refused _ _ _ _ _ _ (given (o .before .before)) _ (o .admit .ensures) _ (c .enum-told .given .1)
-
-cast-write : tie.Need-cast-write
-cast-write c = search needs
-
-sub-write : tie.Need-sub-write
-sub-write c = omega (arith, here c)
-
-part-write-start : tie.Need-part-write-start
-part-write-start c = omega (arith, here c)
-
-part-write-end : tie.Need-part-write-end
-part-write-end c = search needs
-
-write-requires : tie.Need-write-requires
-write-requires c κs = omega (arith, here (c .before))
-
-add-t14 : tie.Need-add-t14
-add-t14 c = omega (arith, here (c .before .before .before .before))
-
-same-length-2 : tie.Need-same-length-2
-same-length-2 c = search needs
-
-returns-2 : tie.Need-returns-2
-returns-2 c =
     let w = c .before .before in
-    let k = w .before .before in
-    let o = k .before .before .before .before .before in
-    add-done _ _ _ _ _ _ (given (o .before .before)) _ (o .admit .ensures) _ _ _ (k .before .answer .given .1) refl (w .write .ensures)
+    let t = w .before .before .before .before in
+    let a = t .before .before .before .before .args in
+    let g = a .given in
+    w .add-module .ensures ∙ ap (λ (n : List ℕ). addedMembers (now (a .buf)) true (moduleOf (g .kind) n (g .address) (g .size))) (text-part (g .name) (t .trimmed-length .result) (t .trimmed-length .ensures .1))
 
 pub add-module-spec : {M : Type 1} → statement M
 add-module-spec =
     tie.close
     (tie.spec
-    fault-requires
-    admit-requires
-    enum-known-answer
-    enum-told
+    slice-aggregate-trimmed-length
+    trimmed-length-requires
+    sub-add-module
+    part-add-module-start
+    part-add-module-end
+    add-module-requires
     same-length
-    returns
-    cast-write
-    sub-write
-    part-write-start
-    part-write-end
-    write-requires
-    add-t14
-    same-length-2
-    returns-2)
+    returns)

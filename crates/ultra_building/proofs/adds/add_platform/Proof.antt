@@ -1,89 +1,80 @@
--- `ultra_building::adds::add_platform` meets its contract.
+-- `ultra_building::adds::add_platform` meets its contract: the members are those of the record.
 -- Assumes nothing.
-use mathlib.Core.Path.{refl}
-use native.Mathlib.Omega.{arith}
+use mathlib.Core.Path.{_∙_}
+use denote.Ref.{now}
+use Rattle.ultra_format.specs.Additions.{platformOf, bodyGiven}
+use Rattle.ultra_building.specs.Building.{addedMembers}
+use Rattle.ultra_building.proofs.GivenRecords.{text-part, record-added}
 use borrow.Author.Needs.{needs}
-use Rattle.ultra_format.specs.Plain.{writtenSize}
-use Rattle.ultra_format.specs.Additions.{bodyGiven}
-use Rattle.ultra_format.specs.Additions.{Addition.addPlatform}
-use Rattle.ultra_building.proofs.Adding.{given-holds, Given, Place, place, add-refused, add-done}
 use Rattle.ultra_building.proofs.adds.add_platform.Statement.{statement}
 use Rattle.ultra_building.proofs.adds.add_platform.Tie as tie
 
-given : (c : tie.After-fault) → Given (addPlatform (c .before .before .args .given)) 1 (c .fault .result) 88
-unfolding bodyGiven writtenSize
-given c = record { kind = refl; faulty = c .fault .ensures; wide = refl }
+complete-requires : tie.Need-complete-requires
+complete-requires c κs = search needs
 
-here : (c : tie.After-known-told)
-    → Place (c .before .before .before .before .before .admit .last .0) (addPlatform (c .before .before .before .before .before .before .before .before .before .args .given)) (c .before .answer .given .0 .0) 88
-here c =
-    let o = c .before .before .before .before .before in
-    place _ _ _ _ _ _ (given (o .before .before)) _ (o .admit .ensures) _ (c .before .answer .given .1)
+slice-aggregate-trimmed-length : tie.Need-slice-aggregate-trimmed-length
+slice-aggregate-trimmed-length c = search needs
 
-fault-requires : tie.Need-fault-requires
-fault-requires c κs = search needs
+trimmed-length-requires : tie.Need-trimmed-length-requires
+trimmed-length-requires c κs = search needs
 
-admit-requires : tie.Need-admit-requires
-admit-requires c κs = search needs
+sub-add-platform : tie.Need-sub-add-platform
+sub-add-platform c = search needs
 
-enum-known-answer : tie.Need-enum-known-answer
-enum-known-answer c = search needs
+part-add-platform-start : tie.Need-part-add-platform-start
+part-add-platform-start c = search needs
 
-enum-told : tie.Need-enum-told
-enum-told c = search needs
+part-add-platform-end : tie.Need-part-add-platform-end
+part-add-platform-end c = search needs
+
+wide-number-requires : tie.Need-wide-number-requires
+wide-number-requires c κs = search needs
+
+narrow-number-requires : tie.Need-narrow-number-requires
+narrow-number-requires c κs = search needs
+
+wide-number-requires-2 : tie.Need-wide-number-requires-2
+wide-number-requires-2 c κs = search needs
+
+wide-number-requires-3 : tie.Need-wide-number-requires-3
+wide-number-requires-3 c κs = search needs
+
+add-platform-requires : tie.Need-add-platform-requires
+add-platform-requires c κs = search needs
 
 same-length : tie.Need-same-length
 same-length c = search needs
 
 returns : tie.Need-returns
+unfolding bodyGiven
 returns c =
-    let o = c .before .before .before .before in
-    add-refused _ _ _ _ _ _ (given (o .before .before)) _ (o .admit .ensures) _ (c .enum-told .given .1)
-
-cast-write : tie.Need-cast-write
-cast-write c = search needs
-
-sub-write : tie.Need-sub-write
-sub-write c = omega (arith, here c)
-
-part-write-start : tie.Need-part-write-start
-part-write-start c = omega (arith, here c)
-
-part-write-end : tie.Need-part-write-end
-part-write-end c = search needs
-
-write-requires : tie.Need-write-requires
-unfolding bodyGiven writtenSize
-write-requires c κs = let h = here (c .before) in (omega arith, given-holds _ (h .sound) .1 .suits)
-
-add-t14 : tie.Need-add-t14
-add-t14 c = omega (arith, here (c .before .before .before .before))
-
-same-length-2 : tie.Need-same-length-2
-same-length-2 c = search needs
-
-returns-2 : tie.Need-returns-2
-returns-2 c =
     let w = c .before .before in
-    let k = w .before .before in
-    let o = k .before .before .before .before .before in
-    add-done _ _ _ _ _ _ (given (o .before .before)) _ (o .admit .ensures) _ _ _ (k .before .answer .given .1) refl (w .write .ensures)
+    let n = w .before in
+    let m = n .before in
+    let k = m .before in
+    let j = k .before in
+    let t = j .before .before .before .before in
+    let f = t .before .before .before in
+    let a = f .before .before .args in
+    let g = a .given in
+    w .add-platform .ensures
+    ∙ (λ i. addedMembers (now (a .buf)) (f .complete .result) (platformOf (g .kind) (g .«loader_major») (g .«loader_minor») (text-part (g .name) (t .trimmed-length .result) (t .trimmed-length .ensures .1) i) (g .rsdp) (j .wide-number .ensures i) (k .narrow-number .ensures i) (m .wide-number2 .ensures i) (n .wide-number3 .ensures i)))
+    ∙ record-added (now (a .buf)) g _ (f .complete .ensures)
 
 pub add-platform-spec : {M : Type 1} → statement M
 add-platform-spec =
     tie.close
     (tie.spec
-    fault-requires
-    admit-requires
-    enum-known-answer
-    enum-told
+    complete-requires
+    slice-aggregate-trimmed-length
+    trimmed-length-requires
+    sub-add-platform
+    part-add-platform-start
+    part-add-platform-end
+    wide-number-requires
+    narrow-number-requires
+    wide-number-requires-2
+    wide-number-requires-3
+    add-platform-requires
     same-length
-    returns
-    cast-write
-    sub-write
-    part-write-start
-    part-write-end
-    write-requires
-    add-t14
-    same-length-2
-    returns-2)
+    returns)

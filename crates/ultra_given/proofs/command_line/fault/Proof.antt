@@ -1,6 +1,7 @@
 -- `ultra_given::command_line::fault` meets its contract: each test answers for its rule.
 -- Assumes nothing.
-use mathlib.Core.Path.{refl, _∙_}
+use mathlib.Core.Path.{_∙_, refl}
+use mathlib.Core.Bool.{true}
 use borrow.Author.Needs.{needs}
 use denote.Ref.{now}
 use Rattle.ultra_format.specs.Members.{sizeSuits, values, texts, ranges, ordered}
@@ -20,8 +21,7 @@ returns : tie.Need-returns
 unfolding bodyGiven writtenSize sizeSuits values texts ranges ordered
 returns c =
     let t = now (c .before .before .before .args .text) in
-    let g = Addition.addCommandLine t in
-    judged g (c .first-broken .ensures) (line-form t) refl (c .before .all-ascii .ensures ∙ line-text t) refl refl
+    c .first-broken .ensures ∙ judged true (bodyGiven (Addition.addCommandLine t)) (line-form t) refl (c .before .all-ascii .ensures ∙ line-text t) refl refl
 
 pub fault-spec : {M : Type 1} → statement M
 fault-spec = tie.close (tie.spec all-ascii-requires first-broken-requires returns)

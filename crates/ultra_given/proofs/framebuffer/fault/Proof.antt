@@ -1,7 +1,8 @@
 -- `ultra_given::framebuffer::fault` meets its contract: each test answers for its rule.
 -- Assumes nothing.
-use mathlib.Core.Path.{refl}
+use mathlib.Core.Path.{_∙_, refl}
 use native.Mathlib.Omega.{arith}
+use mathlib.Core.Bool.{true}
 use borrow.Author.Needs.{needs}
 use Rattle.ultra_format.specs.Members.{sizeSuits, values, texts, ranges, ordered}
 use Rattle.ultra_format.specs.Plain.{writtenSize}
@@ -33,8 +34,8 @@ returns : tie.Need-returns
 unfolding bodyGiven writtenSize sizeSuits values texts ranges ordered
 returns c =
     let d = c .before .before in
-    let g = Addition.addFramebuffer (d .before .before .args .given) in
-    judged g (c .first-broken .ensures) refl (d .before .framebuffer .ensures) refl (c .before .fits2 .ensures) refl
+    let x = bodyGiven (Addition.addFramebuffer (d .before .before .args .given)) in
+    c .first-broken .ensures ∙ judged true x refl (d .before .framebuffer .ensures) refl (c .before .fits2 .ensures) refl
 
 pub fault-spec : {M : Type 1} → statement M
 fault-spec =

@@ -1,13 +1,14 @@
 -- `ultra_given::kernel::fault` meets its contract: each test answers for its rule.
 -- Assumes nothing.
-use mathlib.Core.Path.{refl}
+use mathlib.Core.Path.{_∙_, refl}
+use mathlib.Core.Bool.{true}
+use Rattle.ultra_format.specs.Members.{memberFault}
 use borrow.Author.Needs.{needs}
-use Rattle.ultra_format.specs.Members.{sizeSuits, values, texts, ranges, ordered}
-use Rattle.ultra_format.specs.Plain.{writtenSize}
-use Rattle.ultra_format.specs.Additions.{Addition, bodyGiven}
-use Rattle.ultra_given.proofs.Judged.{judged}
 use Rattle.ultra_given.proofs.kernel.fault.Statement.{statement}
 use Rattle.ultra_given.proofs.kernel.fault.Tie as tie
+
+guids-formed-requires : tie.Need-guids-formed-requires
+guids-formed-requires c κs = search needs
 
 kernel-requires : tie.Need-kernel-requires
 kernel-requires c κs = search needs
@@ -22,13 +23,19 @@ first-broken-requires : tie.Need-first-broken-requires
 first-broken-requires c κs = search needs
 
 returns : tie.Need-returns
-unfolding bodyGiven writtenSize sizeSuits values texts ranges ordered
 returns c =
-    let d = c .before .before in
-    let g = Addition.addKernel (d .before .before .before .before .args .given) in
-    judged g (c .first-broken .ensures) refl (d .before .before .kernel .ensures) (d .path3 .ensures) (c .before .both-fit .ensures) refl
+    let d = c .before in
+    let t = d .before in
+    let v = t .before in
+    c .first-broken .ensures ∙ (λ i. memberFault (v .before .guids-formed .ensures i) (v .kernel .ensures i) (t .path .ensures i) (d .both-fit .ensures i) true)
 
 pub fault-spec : {M : Type 1} → statement M
 fault-spec =
     tie.close
-    (tie.spec kernel-requires path-requires both-fit-requires first-broken-requires returns)
+    (tie.spec
+    guids-formed-requires
+    kernel-requires
+    path-requires
+    both-fit-requires
+    first-broken-requires
+    returns)

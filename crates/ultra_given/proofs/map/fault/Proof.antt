@@ -1,11 +1,11 @@
 -- `ultra_given::map::fault` meets its contract: each test answers for its rule.
 -- Assumes nothing.
-use mathlib.Core.Path.{refl}
+use mathlib.Core.Path.{refl, _∙_}
 use borrow.Author.Needs.{needs}
 use denote.Ref.{now}
 use Rattle.ultra_format.specs.Members.{sizeSuits, values, texts, ranges, ordered}
 use Rattle.ultra_format.specs.Plain.{writtenSize}
-use Rattle.ultra_format.specs.Additions.{Addition, bodyGiven}
+use Rattle.ultra_format.specs.Additions.{Addition, entriesGiven, bodyGiven}
 use Rattle.ultra_given.proofs.Judged.{judged, map-form}
 use Rattle.ultra_given.proofs.map.fault.Statement.{statement}
 use Rattle.ultra_given.proofs.map.fault.Tie as tie
@@ -27,8 +27,8 @@ unfolding bodyGiven writtenSize sizeSuits values texts ranges ordered
 returns c =
     let d = c .before .before in
     let ns = now (d .before .before .before .args .numbers) in
-    let g = Addition.addMap ns in
-    judged g (c .first-broken .ensures) (map-form ns) (d .before .all-typed .ensures) refl (d .all-fit .ensures) (c .before .all-ordered .ensures)
+    let x = bodyGiven (Addition.addMap ns) in
+    c .first-broken .ensures ∙ judged _ x (map-form (entriesGiven ns)) (d .before .all-typed .ensures) refl (d .all-fit .ensures) (c .before .all-ordered .ensures)
 
 pub fault-spec : {M : Type 1} → statement M
 fault-spec =

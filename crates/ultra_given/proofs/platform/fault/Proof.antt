@@ -1,30 +1,23 @@
 -- `ultra_given::platform::fault` meets its contract: each test answers for its rule.
 -- Assumes nothing.
-use mathlib.Core.Path.{refl}
+use mathlib.Core.Path.{_∙_}
+use mathlib.Core.Bool.{true}
+use Rattle.ultra_format.specs.Members.{memberFault, nonzero}
 use borrow.Author.Needs.{needs}
-use Rattle.ultra_format.specs.Members.{sizeSuits, values, texts, ranges, ordered}
-use Rattle.ultra_format.specs.Plain.{writtenSize}
-use Rattle.ultra_format.specs.Additions.{Addition, bodyGiven}
-use Rattle.ultra_given.proofs.Judged.{judged}
 use Rattle.ultra_given.proofs.platform.fault.Statement.{statement}
 use Rattle.ultra_given.proofs.platform.fault.Tie as tie
 
-complete-requires : tie.Need-complete-requires
-complete-requires c κs = search needs
-
-name-fits-requires : tie.Need-name-fits-requires
-name-fits-requires c κs = search needs
+ascii-requires : tie.Need-ascii-requires
+ascii-requires c κs = search needs
 
 first-broken-requires : tie.Need-first-broken-requires
 first-broken-requires c κs = search needs
 
 returns : tie.Need-returns
-unfolding bodyGiven writtenSize sizeSuits values texts ranges ordered
 returns c =
-    let d = c .before .before in
-    let g = Addition.addPlatform (d .before .before .before .before .args .given) in
-    judged g (c .first-broken .ensures) (d .before .before .complete .ensures) refl (d .name-fits .ensures) refl refl
+    let t = c .before in
+    let a = t .before .before .args in
+    c .first-broken .ensures ∙ (λ i. memberFault (a .complete) (nonzero (a .kind)) (t .ascii .ensures i) true true)
 
 pub fault-spec : {M : Type 1} → statement M
-fault-spec =
-    tie.close (tie.spec complete-requires name-fits-requires first-broken-requires returns)
+fault-spec = tie.close (tie.spec ascii-requires first-broken-requires returns)

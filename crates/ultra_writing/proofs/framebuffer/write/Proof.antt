@@ -1,11 +1,11 @@
 -- `framebuffer::write` meets its contract: each member is a field more.
 -- Assumes nothing.
-use Rattle.byte_layout.specs.Fields.{Field.number}
-use Rattle.byte_layout.proofs.Written.{next, no-padding}
+use Rattle.byte_layout.specs.Fields.{width, Field.number}
+use Rattle.byte_layout.proofs.Written.{begun, next, no-padding}
 use Rattle.ultra_format.specs.Plain.{writtenSize}
 use Rattle.ultra_format.specs.Additions.{bodyGiven}
 use borrow.Author.Needs.{needs}
-use Rattle.ultra_writing.proofs.Begun.{begun}
+use Rattle.ultra_writing.specs.Leading.{headerFields}
 use Rattle.ultra_writing.proofs.framebuffer.write.Statement.{statement}
 use Rattle.ultra_writing.proofs.framebuffer.write.Tie as tie
 
@@ -34,7 +34,7 @@ same-length : tie.Need-same-length
 same-length c = search needs
 
 returns : tie.Need-returns
-unfolding bodyGiven writtenSize
+unfolding bodyGiven writtenSize width
 returns c =
     let p6 = c .before .before in
     let p5 = p6 .before .before .before .before in
@@ -45,7 +45,7 @@ returns c =
     let p0 = p1 .before .before .before .before in
     let a = p0 .before .before .before .args in
     let g = a .given in
-    let s0 = begun (a .part .now) 6 32 (p0 .header .ensures) in
+    let s0 = begun (a .part .now) (headerFields 6 32) (p0 .header .ensures) in
     let s1 = next (number 4 (g .width)) s0 (p1 .store-u32 .ensures) in
     let s2 = next (number 4 (g .height)) s1 (p2 .store-u322 .ensures) in
     let s3 = next (number 4 (g .pitch)) s2 (p3 .store-u323 .ensures) in

@@ -1,9 +1,9 @@
 -- `kernel::leading` meets its contract: each member is a field more.
 -- Assumes nothing.
+use Rattle.byte_layout.specs.Fields.{width, Field.number}
+use Rattle.byte_layout.proofs.Written.{begun, next}
+use Rattle.ultra_writing.specs.Leading.{headerFields}
 use borrow.Author.Needs.{needs}
-use Rattle.byte_layout.specs.Fields.{Field.number}
-use Rattle.byte_layout.proofs.Written.{next}
-use Rattle.ultra_writing.proofs.Begun.{begun}
 use Rattle.ultra_writing.proofs.kernel.leading.Statement.{statement}
 use Rattle.ultra_writing.proofs.kernel.leading.Tie as tie
 
@@ -26,6 +26,7 @@ same-length : tie.Need-same-length
 same-length c = search needs
 
 returns : tie.Need-returns
+unfolding width
 returns c =
     let p4 = c .before .before in
     let p3 = p4 .before .before .before .before in
@@ -33,12 +34,11 @@ returns c =
     let p1 = p2 .before .before .before .before in
     let p0 = p1 .before .before .before .before in
     let a = p0 .before .before .before .args in
-    let g = a .given in
-    let s0 = begun (a .part .now) 2 336 (p0 .header .ensures) in
-    let s1 = next (number 8 (g .«physical_base»)) s0 (p1 .store-u64 .ensures) in
-    let s2 = next (number 8 (g .«virtual_base»)) s1 (p2 .store-u642 .ensures) in
-    let s3 = next (number 8 (g .size)) s2 (p3 .store-u643 .ensures) in
-    next (number 8 (g .«partition_type»)) s3 (p4 .store-u644 .ensures) .front
+    let s0 = begun (a .part .now) (headerFields 2 336) (p0 .header .ensures) in
+    let s1 = next (number 8 (a .physical-base)) s0 (p1 .store-u64 .ensures) in
+    let s2 = next (number 8 (a .virtual-base)) s1 (p2 .store-u642 .ensures) in
+    let s3 = next (number 8 (a .size)) s2 (p3 .store-u643 .ensures) in
+    next (number 8 (a .partition-type)) s3 (p4 .store-u644 .ensures) .front
 
 pub leading-spec : {M : Type 1} → statement M
 leading-spec =

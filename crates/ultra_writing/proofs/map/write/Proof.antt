@@ -7,11 +7,11 @@ use native.Mathlib.Omega.{arith}
 use borrow.Author.Needs.{needs}
 use lib.ListN.{length, take}
 use lib.Seq.{take-length}
-use Rattle.byte_layout.specs.Fields.{Field.number}
-use Rattle.byte_layout.proofs.Written.{Front}
+use Rattle.byte_layout.specs.Fields.{width, Field.number}
+use Rattle.byte_layout.proofs.Written.{Front, begun}
 use Rattle.ultra_format.specs.Plain.{writtenSize}
 use Rattle.ultra_format.specs.Additions.{bodyGiven}
-use Rattle.ultra_writing.proofs.Begun.{begun}
+use Rattle.ultra_writing.specs.Leading.{headerFields}
 use Rattle.ultra_writing.proofs.Entries.{numbersFields, entries-numbers, map-size, number-more}
 use Rattle.ultra_writing.proofs.map.write.Statement.{statement}
 use Rattle.ultra_writing.proofs.map.write.Tie as tie
@@ -71,7 +71,7 @@ same-length : tie.Need-same-length Inv-loop μ-loop
 same-length c = search needs
 
 returns : tie.Need-returns Inv-loop μ-loop
-unfolding bodyGiven writtenSize
+unfolding bodyGiven writtenSize width
 returns c =
     let l = c .before in
     let p = l .before .before .before in
@@ -80,7 +80,7 @@ returns c =
     let e = s .args .part .now in
     let ns = s .args .numbers .now in
     let n : l .loop .i ≡ length ns = omega arith in
-    let t = l .loop .inv .2 e (begun e 3 (z .size .result) (p .header .ensures)) in
+    let t = l .loop .inv .2 e (begun e (headerFields 3 (z .size .result)) (p .header .ensures)) in
     rw (← (z .size .ensures), entries-numbers ns (s .pre .1 .0)) (rw (n, take-length) at (t .front))
 
 pub write-spec : {M : Type 1} → statement M

@@ -1,68 +1,68 @@
--- `platform::write` meets its contract: each late member is present, and is a field more.
+-- `platform::write` meets its contract: each member is a field more.
 -- Assumes nothing.
-use borrow.Author.Needs.{needs}
-use Rattle.byte_layout.proofs.Written.{no-padding}
+use native.Mathlib.Omega.{arith}
+use mathlib.Core.Path.{_≡_}
+use lib.ListN.{length, set, length-set}
+use Rattle.words.proofs.Widths.{byte-stored}
+use Rattle.byte_layout.specs.Fields.{width, Field.number, Field.padding}
+use Rattle.byte_layout.proofs.Written.{begun, next, no-padding}
 use Rattle.ultra_format.specs.Plain.{writtenSize}
-use Rattle.ultra_format.specs.Records.{platformGiven}
-use Rattle.ultra_format.specs.Additions.{bodyGiven}
-use Rattle.ultra_writing.proofs.Begun.{platform-begun}
-use Rattle.ultra_writing.proofs.Present.{all-present, next-member, next-depth}
+use Rattle.ultra_writing.specs.Leading.{platformLeading}
+use borrow.Author.Needs.{needs}
 use Rattle.ultra_writing.proofs.platform.write.Statement.{statement}
 use Rattle.ultra_writing.proofs.platform.write.Tie as tie
 
 leading-requires : tie.Need-leading-requires
 leading-requires c κs = search needs
 
-member-requires : tie.Need-member-requires
-member-requires c κs =
-    let s = c .before .before .before .before .before .before in
-    (search needs, all-present (platformGiven (s .args .given)) (s .pre .1) .0)
+store-u64-requires : tie.Need-store-u64-requires
+store-u64-requires c κs = search needs
 
-depth-requires : tie.Need-depth-requires
-depth-requires c κs =
-    let s = c .before .before .before .before .before .before .before .before .before .before in
-    (search needs, all-present (platformGiven (s .args .given)) (s .pre .1) .1)
+slice-write-part : tie.Need-slice-write-part
+slice-write-part c = search needs
 
-member-requires-2 : tie.Need-member-requires-2
-member-requires-2 c κs =
-    let s = c .before .before .before .before .before .before .before .before .before .before .before .before .before .before in
-    (search needs, all-present (platformGiven (s .args .given)) (s .pre .1) .2)
+clear-requires : tie.Need-clear-requires
+clear-requires c κs = simp length-set (omega arith)
 
-member-requires-3 : tie.Need-member-requires-3
-member-requires-3 c κs =
-    let s = c .before .before .before .before .before .before .before .before .before .before .before .before .before .before .before .before .before .before in
-    (search needs, all-present (platformGiven (s .args .given)) (s .pre .1) .3)
+-- the depth is set in a part as long as before
+kept : (c : tie.After-store-u64) → let q = c .store-u64 .last .0 in length (set q 64 (c .before .before .before .before .before .before .before .before .args .depth)) ≡ length q
+kept c = simp length-set
+
+store-u64-requires-2 : tie.Need-store-u64-requires-2
+store-u64-requires-2 c κs = omega (arith, kept (c .before .before .before .before .before .before .before))
+
+store-u64-requires-3 : tie.Need-store-u64-requires-3
+store-u64-requires-3 c κs = omega (arith, kept (c .before .before .before .before .before .before .before .before .before .before .before))
 
 same-length : tie.Need-same-length
-same-length c = search needs
+same-length c = omega (arith, kept (c .before .before .before .before .before .before .before .before .before .before .before .before .before .before))
 
 returns : tie.Need-returns
-unfolding bodyGiven writtenSize
+unfolding writtenSize width
 returns c =
     let p4 = c .before .before in
     let p3 = p4 .before .before .before .before in
     let p2 = p3 .before .before .before .before in
     let p1 = p2 .before .before .before .before in
     let p0 = p1 .before .before .before .before in
-    let s = p0 .before .before .before in
-    let e = s .args .part .now in
-    let g = s .args .given in
-    let m = platformGiven g in
-    let h = all-present m (s .pre .1) in
-    let s0 = platform-begun e g (p0 .leading .ensures) in
-    let s1 = next-member (m .higherHalfBase) (h .0) s0 (p1 .member .ensures) in
-    let s2 = next-depth (m .depth) (h .1) s1 (p2 .depth .ensures) in
-    let s3 = next-member (m .dtb) (h .2) s2 (p3 .member2 .ensures) in
-    no-padding (next-member (m .smbios) (h .3) s3 (p4 .member3 .ensures)) .front
+    let s = p0 .before .before .before .before in
+    let a = s .args in
+    let s0 = begun (a .part .now) (platformLeading (a .kind) (a .loader-major) (a .loader-minor) (a .name .now) (a .rsdp)) (p0 .leading .ensures) in
+    let s1 = next (number 8 (a .higher-half-base)) s0 (p1 .store-u64 .ensures) in
+    let s2 = next (number 1 (a .depth)) s1 (byte-stored (p1 .store-u64 .last .0) 64 (a .depth) (omega (arith, s .fits .depth)) (search needs)) in
+    let s3 = next (padding 7) s2 (p2 .clear .ensures) in
+    let s4 = next (number 8 (a .dtb)) s3 (p3 .store-u642 .ensures) in
+    no-padding (next (number 8 (a .smbios)) s4 (p4 .store-u643 .ensures)) .front
 
 pub write-spec : {M : Type 1} → statement M
 write-spec =
     tie.close
     (tie.spec
     leading-requires
-    member-requires
-    depth-requires
-    member-requires-2
-    member-requires-3
+    store-u64-requires
+    slice-write-part
+    clear-requires
+    store-u64-requires-2
+    store-u64-requires-3
     same-length
     returns)

@@ -1,0 +1,101 @@
+-- `ultra_building::members::add_module` meets its contract.
+-- Assumes nothing.
+use mathlib.Core.Path.{refl, _∙_}
+use native.Mathlib.Omega.{arith}
+use borrow.Author.Needs.{needs}
+use denote.Ref.{now}
+use Rattle.ultra_format.specs.Contexts.{Body}
+use Rattle.ultra_format.specs.Members.{sizeSuits, values, texts, ranges, ordered}
+use Rattle.ultra_format.specs.Plain.{writtenSize}
+use mathlib.Core.Bool.{true}
+use Rattle.ultra_format.specs.Additions.{moduleOf}
+use Rattle.ultra_building.proofs.GivenMembers.{name-short}
+use Rattle.ultra_given.proofs.Judged.{judged}
+use Rattle.ultra_building.proofs.Adding.{given-holds, Given, Place, place, add-refused, add-done}
+use Rattle.ultra_building.proofs.members.add_module.Statement.{statement}
+use Rattle.ultra_building.proofs.members.add_module.Tie as tie
+
+abbrev body : tie.Start → Body
+body c = moduleOf (c .args .kind) (now (c .args .name)) (c .args .address) (c .args .size)
+
+given : (c : tie.After-fault) → Given (true) (body (c .before .before .before)) 4 (c .fault .result) 96
+unfolding writtenSize sizeSuits values texts ranges ordered
+given c = record { kind = refl; faulty = c .fault .ensures ∙ judged _ (body (c .before .before .before)) refl refl refl refl refl; wide = refl }
+
+here : (c : tie.After-known-told)
+    → let s = c .before .before .before .before .before .before .before .before .before .before in
+    Place (c .before .before .before .before .before .admit .last .0) (true) (body s) (c .before .answer .given .0 .0) 96
+here c =
+    let o = c .before .before .before .before .before in
+    place _ _ _ _ _ _ _ (given (o .before .before)) _ (o .admit .ensures) _ (c .before .answer .given .1)
+
+fault-requires : tie.Need-fault-requires
+fault-requires c κs = search needs
+
+admit-requires : tie.Need-admit-requires
+admit-requires c κs = search needs
+
+enum-known-answer : tie.Need-enum-known-answer
+enum-known-answer c = search needs
+
+enum-told : tie.Need-enum-told
+enum-told c = search needs
+
+same-length : tie.Need-same-length
+same-length c = search needs
+
+returns : tie.Need-returns
+returns c =
+    let o = c .before .before .before .before in
+    add-refused _ _ _ _ _ _ _ (given (o .before .before)) _ (o .admit .ensures) _ (c .enum-told .given .1)
+
+cast-write : tie.Need-cast-write
+cast-write c = search needs
+
+sub-write : tie.Need-sub-write
+sub-write c = omega (arith, here c)
+
+part-write-start : tie.Need-part-write-start
+part-write-start c = omega (arith, here c)
+
+part-write-end : tie.Need-part-write-end
+part-write-end c = search needs
+
+write-requires : tie.Need-write-requires
+unfolding writtenSize texts
+write-requires c κs =
+    let h = here (c .before) in
+    let t = given-holds _ _ (h .sound) .1 .textsHold in
+    (omega arith, omega (arith, name-short 64 _ t))
+
+add-t17 : tie.Need-add-t17
+add-t17 c = omega (arith, here (c .before .before .before .before))
+
+same-length-2 : tie.Need-same-length-2
+same-length-2 c = search needs
+
+returns-2 : tie.Need-returns-2
+returns-2 c =
+    let w = c .before .before in
+    let k = w .before .before in
+    let o = k .before .before .before .before .before in
+    add-done _ _ _ _ _ _ _ (given (o .before .before)) _ (o .admit .ensures) _ _ _ (k .before .answer .given .1) refl (w .write .ensures)
+
+pub add-module-spec : {M : Type 1} → statement M
+add-module-spec =
+    tie.close
+    (tie.spec
+    fault-requires
+    admit-requires
+    enum-known-answer
+    enum-told
+    same-length
+    returns
+    cast-write
+    sub-write
+    part-write-start
+    part-write-end
+    write-requires
+    add-t17
+    same-length-2
+    returns-2)

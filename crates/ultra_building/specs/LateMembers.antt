@@ -1,0 +1,9 @@
+-- The number of a member that can be absent.
+-- Assumes nothing.
+use Prim.Native.Nat.{ℕ}
+use Rattle.ultra_format.specs.Contexts.{Member}
+use Rattle.ultra_format.specs.Contexts.{Member.present, Member.absent}
+
+abbrev pub numberOrZero : Member → ℕ
+numberOrZero (present n) = n
+numberOrZero absent = 0

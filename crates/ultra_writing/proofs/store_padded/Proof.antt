@@ -1,0 +1,36 @@
+-- `store_padded` meets its contract: the bytes and the zeros behind them are one field.
+-- Assumes nothing.
+use Prim.Native.Nat.{_-_}
+use native.Mathlib.Omega.{arith}
+use lib.ListN.{length}
+use Rattle.byte_layout.proofs.Written.{padded-stored}
+use borrow.Author.Needs.{needs}
+use Rattle.ultra_writing.proofs.store_padded.Statement.{statement}
+use Rattle.ultra_writing.proofs.store_padded.Tie as tie
+
+store-requires : tie.Need-store-requires
+store-requires c κs = search needs
+
+add-clear : tie.Need-add-clear
+add-clear c = search needs
+
+sub-clear : tie.Need-sub-clear
+sub-clear c = search needs
+
+clear-requires : tie.Need-clear-requires
+clear-requires c κs = search needs
+
+same-length : tie.Need-same-length
+same-length c = search needs
+
+returns : tie.Need-returns
+returns c =
+    let p1 = c .before .before in
+    let p0 = p1 .before .before .before .before in
+    let a = p0 .before .before .before .before .args in
+    let l = a .bytes .now in
+    padded-stored (a .part .now) l _ _ (a .at) (a .width) (a .width - length l) (omega arith) (omega arith) (p0 .store .ensures) (p1 .clear .ensures)
+
+pub store-padded-spec : {M : Type 1} → statement M
+store-padded-spec =
+    tie.close (tie.spec store-requires add-clear sub-clear clear-requires same-length returns)
