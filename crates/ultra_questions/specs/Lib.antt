@@ -7,3 +7,4 @@ pub mod CommandLineQuestion
 pub mod ModuleQuestion
 pub mod ByContext
 pub mod QuestionRefusals
+pub mod MapAsBytes

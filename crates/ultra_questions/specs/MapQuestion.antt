@@ -1,11 +1,11 @@
 -- "The map copied out as 64-bit numbers; 19 then 18, both with the used length; elements past the last triple stay. Success answers the
 -- number of entries."
 -- Assumes nothing.
-use Prim.Native.Nat.{ℕ, zero, suc, _+_, _*_}
+use Prim.Native.Nat.{ℕ, _+_, _-_, _*_, _/_}
 use mathlib.Core.List.{List, [], _∷_}
 use lib.ListN.{length}
 use lib.Dec.{leb}
-use Rattle.words.specs.Words.{u64At}
+use Rattle.words.specs.Words.{u32At, numbersIn, numbersBytes}
 use Rattle.byte_layout.specs.Stored.{over}
 use Rattle.ultra_format.specs.Refusals.{ROOM, ABSENT}
 use Rattle.ultra_format.specs.Answers.{refused}
@@ -22,11 +22,6 @@ use Rattle.ultra_questions.specs.Searching.{Found, Found.none, Found.fou
 unfoldable pub numbers : List Entry → List ℕ
 numbers [] = []
 numbers (e ∷ es) = e .address ∷ e .size ∷ e .entryType ∷ numbers es
-
--- n numbers of 64 bits in `b` from `o` on
-unfoldable pub numbersAt : List ℕ → ℕ → ℕ → List ℕ
-numbersAt b o zero = []
-numbersAt b o (suc n) = u64At b o ∷ numbersAt b (o + 8) n
 
 abbrev pub entriesOf : Body → List Entry
 entriesOf (platform p) = []
@@ -53,3 +48,22 @@ mapIn c out = foundCopied (used c) (firstIn (ofType 3) c) out
 -- of a buffer: "all lent memory" is unchanged where reading refuses it
 unfoldable pub mapCopied : List ℕ → List ℕ → Answer × List ℕ
 mapCopied b out = ifAccepted (λ r. (r, out)) (mapIn (contextOf b) out) (usedLength 2 b)
+
+-- ---- the same with an output of bytes, "eight to a number"; "an output counts whole eights"
+abbrev pub overBytes : List ℕ → Answer × List ℕ → Answer × List ℕ
+overBytes out r = (r .0, over (numbersBytes (r .1)) out)
+
+unfoldable pub mapCopiedBytes : List ℕ → List ℕ → Answer × List ℕ
+mapCopiedBytes b out = overBytes out (mapCopied b (numbersIn out))
+
+-- ---- before anything is copied: where the map attribute starts, for an output of n numbers and a context of the used length u
+abbrev pub foundPlace : ℕ → ℕ → Found → Answer
+foundPlace u n none = refused ABSENT u
+foundPlace u n (found o a) = pick (leb (3 * length (entriesOf (a .body))) n) (Done o) (refused ROOM u)
+
+unfoldable pub mapPlace : List ℕ → ℕ → Answer
+mapPlace b n = ifAccepted (λ r. r) (foundPlace (used (contextOf b)) n (firstIn (ofType 3) (contextOf b))) (usedLength 2 b)
+
+-- how many entries the map attribute at `o` has
+abbrev pub entriesStored : List ℕ → ℕ → ℕ
+entriesStored b o = (u32At b (o + 4) - 8) / 24

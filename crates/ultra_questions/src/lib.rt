@@ -14,5 +14,6 @@ pub use attributes::attribute_start;
 pub use line::command_line;
 pub use line::command_line_part;
 pub use map::copy_map;
+pub use map::copy_map_bytes;
 pub use module::module_holding;
 pub use part::Part;

@@ -7,8 +7,9 @@ use native.Mathlib.Omega.{arith}
 use borrow.Author.Needs.{needs}
 use lib.ListN.{length, drop, length-set}
 use Rattle.byte_layout.proofs.Copies.{front-more}
-use Rattle.ultra_questions.specs.MapQuestion.{numbersAt}
-use Rattle.ultra_questions.proofs.MapLaws.{length-numbers, numbers-more}
+use Rattle.words.specs.Words.{numbersAt}
+use Rattle.words.proofs.Numbers.{length-numbers}
+use Rattle.ultra_questions.proofs.MapLaws.{numbers-more}
 use Rattle.ultra_questions.proofs.map.copy_numbers.Statement.{statement}
 use Rattle.ultra_questions.proofs.map.copy_numbers.Tie as tie
 
