@@ -16,7 +16,7 @@ use Rattle.ultra_format.specs.Layouts.{memberFields, depthFields, entriesFields
 use Rattle.ultra_format.specs.Members.{every, nonzero, ascii, asciiText, pathText, texts}
 use Rattle.ultra_format.specs.Rules.{TypeSuits, AttributeMeets}
 use Rattle.ultra_format.specs.Records.{memberOfU64, memberOfU8, unlessTrailing, trimmed}
-use Rattle.ultra_format.specs.Additions.{Addition, entriesGiven, bodyGiven, typeGiven, sizeGiven, attributeGiven, additionFault, bytesGiven}
+use Rattle.ultra_format.specs.Additions.{Addition, entriesGiven, bodyGiven, typeGiven, sizeGiven, attributeGiven, additionFault, bytesGiven, formed}
 use Rattle.ultra_format.specs.Additions.{Addition.addPlatform, Addition.addKernel, Addition.addMap, Addition.addModule, Addition.addCommandLine, Addition.addFramebuffer}
 use Rattle.ultra_format.specs.declared.records.PlatformRecord.{PlatformRecord}
 use Rattle.ultra_format.specs.declared.records.OptionalU64.{OptionalU64}
@@ -48,13 +48,13 @@ letters p (x ∷ t) e f (suc i) h = letters p t (both-hold (p x) (every p t) e .
 positive : (x : ℕ) → nonzero x ≡ true → 0 < x
 positive x e = let n = eqb-false x 0 (not-true _ e) in omega arith
 
-ascii-fits : (k : ℕ) (t : List ℕ) → Bytes t → asciiText k t ≡ true → FieldFits (text k t)
+pub ascii-fits : (k : ℕ) (t : List ℕ) → Bytes t → asciiText k t ≡ true → FieldFits (text k t)
 unfolding asciiText
 ascii-fits k t y e =
     let p = both-hold (ltb (length t) k) _ e in
     (omega (arith, ltb-true (length t) k (p .0)), λ i h. (letters ascii t (p .1) (λ x q. ltb-true 0 x (both-hold (ltb 0 x) _ q .0)) i h, y i))
 
-path-fits : (k : ℕ) (t : List ℕ) → Bytes t → pathText k t ≡ true → FieldFits (text k t)
+pub path-fits : (k : ℕ) (t : List ℕ) → Bytes t → pathText k t ≡ true → FieldFits (text k t)
 unfolding pathText
 path-fits k t y e =
     let p = both-hold (ltb (length t) k && eqb (getD t 0 0) 47) _ e in
@@ -145,7 +145,7 @@ module _ (g : Addition) (e : additionFault g ≡ 0) where
   pub given-meets : AttributeMeets (sizeGiven g) (bodyGiven g)
   given-meets =
       let s = written-size g in
-      let d = given-holds g e .1 in
+      let d = given-holds (formed g) (bodyGiven g) e .1 in
       record {
         eights = s .0;
         least = s .1;

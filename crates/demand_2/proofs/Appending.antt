@@ -21,7 +21,7 @@ use Rattle.ultra_format.specs.Layouts.{attributeFields, attributesFields, layou
 use Rattle.ultra_format.specs.Places.{placeFault}
 use Rattle.ultra_format.specs.Rules.{AttributeMeets, Meets}
 use Rattle.ultra_format.specs.Decoding.{storedType, storedCount, typesBefore}
-use Rattle.ultra_format.specs.Additions.{Addition, typeGiven, sizeGiven, attributeGiven, bytesGiven, additionFault}
+use Rattle.ultra_format.specs.Additions.{Addition, typeGiven, sizeGiven, attributeGiven, bytesGiven, additionFault, bodyGiven}
 use Rattle.ultra_format.specs.declared.Answer.the-variants.{Done}
 use Rattle.ultra_format.proofs.Attributes.{Sized, width-attributes, sized, width-layout, Says, opens-says}
 use Rattle.ultra_format.proofs.Decoded.{starts}
@@ -132,7 +132,7 @@ module _ (b : List ℕ) (c : Context) (g : Addition) (h : HeldBy 0 b c) (y : Add
   more = extended c a
 
   abbrev left : List ℕ
-  left = withAttribute b (used c) g
+  left = withAttribute b (used c) (bodyGiven g)
 
   count-more : storedCount b + 1 ≡ count more
   count-more = omega (arith, says .count, length-more l a)
@@ -271,8 +271,8 @@ module _ (b : List ℕ) (c : Context) (g : Addition) (h : HeldBy 0 b c) (y : Add
 pub appends : (b : List ℕ) (c : Context) (g : Addition) (n : ℕ) → HeldBy 0 b c → AdditionTyped g → added b g .0 ≡ Done n → Appended b c g (added b g .1) n
 appends b c g n h y e = let q = added-held b c g h in rw q (go (faultOn b c g) refl (rw q at e))
   where
-    go : (f : ℕ) → faultOn b c g ≡ f → addedAt b g (orRefused f (used c) (Done (used c))) .0 ≡ Done n
-        → Appended b c g (addedAt b g (orRefused f (used c) (Done (used c))) .1) n
+    go : (f : ℕ) → faultOn b c g ≡ f → addedAt b (bodyGiven g) (orRefused f (used c) (Done (used c))) .0 ≡ Done n
+        → Appended b c g (addedAt b (bodyGiven g) (orRefused f (used c) (Done (used c))) .1) n
     go zero z r =
         let w : used c + sizeGiven g ≡ n = ap valueOf r in
         record { held = held-more b c g h y z; answered = sym w; zeros = fresh-zeros b c g h y z; others = λ i k. other-bytes b c g h y z i (rw (← w) at k) }

@@ -15,10 +15,10 @@ use Rattle.ultra_format.specs.Refusals.{SHORT}
 use Rattle.ultra_format.specs.Answers.{refused, numberOf}
 use Rattle.ultra_format.specs.Layouts.{roomOf}
 use Rattle.ultra_format.specs.Decoding.{pick}
-use Rattle.ultra_format.specs.Additions.{typeGiven, sizeGiven, additionFault}
+use Rattle.ultra_format.specs.Additions.{typeGiven, sizeGiven, additionFault, bodyGiven}
 use Rattle.ultra_format.specs.declared.Answer.{Answer}
 use Rattle.ultra_format.specs.declared.Answer.the-variants.{Done, Refused}
-use Rattle.ultra_building.specs.Building.{emptyHead, begun, placement, addedAt, added}
+use Rattle.ultra_building.specs.Building.{emptyHead, begun, placement, addedAt, added, addedMembers}
 use Rattle.demand_2.specs.Calls.{Call, run, AllTyped}
 use Rattle.demand_2.specs.Calls.{Call.begin, Call.add, Call.read, Call.askUsed, Call.step, Call.askAttribute, Call.askStart, Call.askPart, Call.copyMap, Call.askLine, Call.locateLine, Call.askModule}
 use Rattle.demand_2.specs.Calls.{Reply.answer}
@@ -83,7 +83,7 @@ same : (a b : Answer) → answer a ≡ answer b → a ≡ b
 same a b e = cc
 
 refusals : (b : List ℕ) (k : Call) (a : Answer) → run k b .0 ≡ answer a → (numberOf a ≡ 0 → ⊥) → run k b .1 ≡ b
-unfolding run begun added
+unfolding run begun addedMembers
 refusals b begin a e n = go (leb 8 (roomOf b)) e
   where
     go : (t : Bool) → answer (pick {X = Answer × List ℕ} t (Done 8, over emptyHead b) (refused SHORT 0, b) .0) ≡ answer a
@@ -92,7 +92,7 @@ refusals b begin a e n = go (leb 8 (roomOf b)) e
     go false w = refl
 refusals b (add g) a e n = go (placement b (typeGiven g) (additionFault g) (sizeGiven g)) e
   where
-    go : (p : Answer) → answer (addedAt b g p .0) ≡ answer a → addedAt b g p .1 ≡ b
+    go : (p : Answer) → answer (addedAt b (bodyGiven g) p .0) ≡ answer a → addedAt b (bodyGiven g) p .1 ≡ b
     go (Done v) w = absurd (n (ap numberOf (same a (Done (v + sizeGiven g)) (sym w))))
     go (Refused r) w = refl
 refusals b read a e n = refl

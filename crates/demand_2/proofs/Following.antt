@@ -14,7 +14,7 @@ use Rattle.ultra_format.specs.Contexts.{typeOf, Attribute, Context, total, used
 use Rattle.ultra_format.specs.Layouts.{attributesFields, layout, Opens, roomOf, written}
 use Rattle.ultra_format.specs.Rules.{Meets}
 use Rattle.ultra_format.specs.Decoding.{storedType, storedCount, typesBefore}
-use Rattle.ultra_format.specs.Additions.{Addition, attributeGiven, additionFault, sizeGiven}
+use Rattle.ultra_format.specs.Additions.{Addition, attributeGiven, additionFault, sizeGiven, bodyGiven}
 use Rattle.ultra_format.specs.Additions.{Addition.addCommandLine}
 use Rattle.ultra_format.specs.declared.Answer.the-variants.{Done}
 use Rattle.ultra_format.proofs.Attributes.{at, sized, Says, opens-says}
@@ -90,7 +90,7 @@ module _ (d : List ℕ) (gs : List Addition) (f : Follows d gs) where
   long = omega (arith, f .held .0 .within)
 
   -- what an add does, by the refusal of the list
-  pub added-is : (g : Addition) → added d g ≡ addedAt d g (orRefused (refusalOf (roomOf d) gs g) (used (contextGiven gs)) (Done (used (contextGiven gs))))
+  pub added-is : (g : Addition) → added d g ≡ addedAt d (bodyGiven g) (orRefused (refusalOf (roomOf d) gs g) (used (contextGiven gs)) (Done (used (contextGiven gs))))
   added-is g = added-held d (contextGiven gs) g (f .held) ∙ rw (same-fault g)
 
 -- ---- a beginning
@@ -148,7 +148,7 @@ module _ (d : List ℕ) (gs : List Addition) (h : Keeps d gs) where
   add-follows g y = rw (added-is d gs (h .follows) g) (go (refusalOf (roomOf d) gs g) refl)
     where
       go : (f : ℕ) → refusalOf (roomOf d) gs g ≡ f
-          → Keeps (addedAt d g (orRefused f (used now) (Done (used now))) .1) (appended f gs g) × (length (addedAt d g (orRefused f (used now) (Done (used now))) .1) ≡ length d)
+          → Keeps (addedAt d (bodyGiven g) (orRefused f (used now) (Done (used now))) .1) (appended f gs g) × (length (addedAt d (bodyGiven g) (orRefused f (used now) (Done (used now))) .1) ≡ length d)
       go (suc f) e = (h, refl)
       go zero e =
           let k = h .follows .held in

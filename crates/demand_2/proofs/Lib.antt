@@ -7,3 +7,4 @@ pub mod ReadingBack
 pub mod Rebuilding
 pub mod Demand2
 pub mod Witness
+pub mod TowardC

@@ -18,7 +18,7 @@ use Rattle.ultra_format.specs.Layouts.{memberFields, depthFields, entriesFields
 use Rattle.ultra_format.specs.Rules.{TypeSuits, AttributeMeets}
 use Rattle.ultra_format.specs.Plain.{writtenSize}
 use Rattle.ultra_format.specs.Records.{optionalU64, optionalU8, platformRecord, kernelRecord, moduleRecord, framebufferRecord, recordsOf}
-use Rattle.ultra_format.specs.Additions.{Addition, entriesGiven, bodyGiven, formed, additionFault}
+use Rattle.ultra_format.specs.Additions.{Addition, entriesGiven, bodyGiven, formed, additionFault, givenFault}
 use Rattle.ultra_format.specs.Additions.{Addition.addPlatform, Addition.addKernel, Addition.addMap, Addition.addModule, Addition.addCommandLine, Addition.addFramebuffer}
 use Rattle.ultra_format.proofs.Chains.{passed}
 use Rattle.ultra_format.proofs.Bodies.{lateFields, entries-written, length-written}
@@ -27,7 +27,8 @@ use Rattle.ultra_format.proofs.Given.{platform-given, kernel-given, module-give
 use Rattle.ultra_acceptance.proofs.Walked.{body-passes}
 use Rattle.ultra_questions.specs.Parts.{partBytes}
 use Rattle.ultra_questions.specs.AttributeQuestion.{answered}
-use Rattle.ultra_questions.specs.MapQuestion.{numbers, numbersAt}
+use Rattle.words.specs.Words.{numbersAt}
+use Rattle.ultra_questions.specs.MapQuestion.{numbers}
 use Rattle.ultra_questions.proofs.MapLaws.{numbers-stored}
 use Rattle.demand_2.specs.Calls.{WideTyped, NarrowTyped, NumbersTyped, ArrayTyped, AdditionTyped}
 use Rattle.demand_2.specs.Demand2.{recordBack}
@@ -88,7 +89,7 @@ giving-body s (framebuffer b) u h f = refl
 giving-body s (other t) u h f = absurd (omega arith)
 
 pub giving-given : (g : Addition) → AdditionTyped g → additionFault g ≡ 0 → giving (bodyGiven g) ≡ g
-unfolding giving bodyGiven additionFault
+unfolding giving bodyGiven givenFault
 giving-given (addPlatform r) t e = ap addPlatform (platform-back r (t .name .0))
 giving-given (addKernel r) t e = ap addKernel (kernel-back r (t .path .0))
 giving-given (addMap ns) t e = ap addMap (numbers-back ns (eqb-true (length ns % 3) 0 (passed (formed (addMap ns)) _ _ e .0)))
@@ -178,7 +179,7 @@ giving-typed s (framebuffer b) f =
 giving-typed s (other t) f = λ i. omega arith
 
 -- ---- and has no fault
-giving-formed : (x : Body) → formed (giving x) ≡ true
+pub giving-formed : (x : Body) → formed (giving x) ≡ true
 unfolding giving
 giving-formed (platform p) = refl
 giving-formed (kernel k) = refl
@@ -189,7 +190,7 @@ giving-formed (framebuffer f) = refl
 giving-formed (other t) = refl
 
 pub giving-clear : (s : ℕ) (x : Body) → AttributeMeets s x → s ≡ writtenSize x → bodyGiven (giving x) ≡ x → additionFault (giving x) ≡ 0
-unfolding additionFault
+unfolding givenFault
 giving-clear s x m z e =
     let q = body-passes s x (record { suits = m .suits; valuesHold = m .valuesHold; textsHold = m .textsHold; rangesHold = m .rangesHold; inOrder = m .inOrder }) in
     rw (giving-formed x, e, ← z) q

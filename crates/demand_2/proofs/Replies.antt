@@ -18,7 +18,7 @@ use Rattle.ultra_format.specs.Contexts.{Context, count, sizeAt, used, total}
 use Rattle.ultra_format.specs.Layouts.{roomOf, written}
 use Rattle.ultra_format.specs.Rules.{Meets}
 use Rattle.ultra_format.specs.Decoding.{pick, start, storedCount}
-use Rattle.ultra_format.specs.Additions.{Addition}
+use Rattle.ultra_format.specs.Additions.{Addition, bodyGiven}
 use Rattle.ultra_format.specs.declared.Answer.{Answer}
 use Rattle.ultra_format.specs.declared.Answer.the-variants.{Done}
 use Rattle.ultra_format.proofs.Chains.{both-hold}
@@ -201,7 +201,7 @@ module _ (d : List ℕ) (gs : List Addition) (f : Follows d gs) where
       }
 
   -- ---- every call
-  add-reply : (g : Addition) (n : ℕ) → addedAt d g (orRefused n (used now) (Done (used now))) .0 ≡ addAnswer n gs g
+  add-reply : (g : Addition) (n : ℕ) → addedAt d (bodyGiven g) (orRefused n (used now) (Done (used now))) .0 ≡ addAnswer n gs g
   add-reply g zero = ap Done (sym (used-more gs g))
   add-reply g (suc n) = refl
 

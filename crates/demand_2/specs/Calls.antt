@@ -1,5 +1,6 @@
 -- Every call that the library offers on a buffer, as data: what it answers and what it leaves in the buffer, by the definitions that the
--- contracts cite. (Other `pub` functions are for the library's own crates.)
+-- contracts cite. Adds of members given one by one, as from C, are among them: see TowardC. (Copying the map out as bytes, and the other
+-- calls toward C, are calls of these with their answer as one number; other `pub` functions are for the library's own crates.)
 -- Assumes nothing.
 use Prim.Native.Nat.{ℕ, _<_, _^_}
 use mathlib.Core.Path.{_≡_}

@@ -35,7 +35,7 @@ use Rattle.ultra_reading.specs.declared.cursor.Step.the-variants as stepping
 use Rattle.ultra_acceptance.specs.Acceptance.{HeldBy, versionIn}
 use Rattle.ultra_questions.specs.declared.attributes.AttributeAnswer.{AttributeAnswer}
 use Rattle.ultra_questions.specs.AttributeQuestion.{unanswered, attributeAnswer}
-use Rattle.ultra_questions.specs.MapQuestion.{numbersAt}
+use Rattle.words.specs.Words.{numbersAt}
 use Rattle.ultra_building.specs.Building.{begun, added}
 use Rattle.demand_3.specs.Demand3.{Held, partAt}
 use Rattle.demand_2.specs.Calls.{Call, Reply, run, after, replies, AdditionTyped, AllTyped}
