@@ -1,0 +1,37 @@
+-- The examples hold: by computation.
+-- Assumes nothing.
+use mathlib.Core.Path.{refl}
+use Rattle.words.specs.Words.{numberAt, numbersAt, numbersBytes}
+use Rattle.byte_layout.specs.Stored.{textAt, bytesAt}
+use Rattle.ultra_format.specs.Members.{every, sizeSuits, values, kernelValues, texts, asciiText, pathText, ranges, ordered, entriesOrdered, bodyFault}
+use Rattle.ultra_format.specs.Contexts.{total}
+use Rattle.ultra_format.specs.Places.{placed, occurs, placeFault}
+use Rattle.ultra_format.specs.Decoding.{entriesAt, decoded, start, typesBefore, attributesFrom, contextOf}
+use Rattle.ultra_reading.specs.Reading.{headFault, boundsFault, attributeFault, attributesAnswer, usedLength, readingOf}
+use Rattle.ultra_reading.specs.Stepping.{cursorFault, stepOf}
+use Rattle.ultra_questions.specs.Parts.{bodyPart}
+use Rattle.ultra_questions.specs.Searching.{first}
+use Rattle.ultra_questions.specs.AttributeQuestion.{attributeStart}
+use Rattle.ultra_questions.specs.CommandLineQuestion.{commandLinePart}
+use Rattle.ultra_questions.specs.MapQuestion.{numbers, mapCopied, mapCopiedBytes}
+use Rattle.ultra.specs.Examples.{Examples}
+
+pub examples : Examples
+unfolding numberAt numbersAt numbersBytes textAt bytesAt entriesAt every sizeSuits values kernelValues texts asciiText pathText ranges ordered entriesOrdered bodyFault placed occurs placeFault decoded start typesBefore attributesFrom contextOf total first bodyPart headFault boundsFault attributeFault attributesAnswer usedLength readingOf cursorFault stepOf attributeStart commandLinePart numbers mapCopied mapCopiedBytes
+examples =
+    record {
+      used = refl;
+      header = refl;
+      next = refl;
+      end = refl;
+      kernel = refl;
+      past = refl;
+      line = refl;
+      copied = refl;
+      short = refl;
+      map = refl;
+      mapLeftOver = refl;
+      guids = refl;
+      diskGuid = refl;
+      partitionGuid = refl;
+    }

@@ -1,0 +1,45 @@
+-- Statement: what crosses on document 01's listing (its 480 bytes, written by hand), on the head H alone, and at the boundaries of the lengths
+-- that are given. Proved in proofs/Examples.antt: `examples`.
+-- Assumes nothing.
+use Prim.Native.Nat.{ℕ}
+use mathlib.Core.Path.{_≡_}
+use mathlib.Core.Bool.{true, false}
+use mathlib.Core.List.{List, [], _∷_, _++_}
+use lib.ListN.{replicate}
+use Rattle.ultra_format.specs.Additions.{mapFormed, guidsFormed}
+use Rattle.ultra_format.specs.Examples.{listedBytes}
+use Rattle.ultra_reading.specs.Cases.{head}
+use Rattle.ultra_reading.specs.Reading.{readingOf}
+use Rattle.ultra_reading.specs.Stepping.{cursorAt, stepOf}
+use Rattle.ultra_questions.specs.AttributeQuestion.{attributeStart}
+use Rattle.ultra_questions.specs.CommandLineQuestion.{commandLinePart}
+use Rattle.ultra_questions.specs.MapQuestion.{mapCopiedBytes}
+use Rattle.ultra.specs.Crossing.{answerCrossed, stepCrossed, readingCrossed, partCrossed, crossed}
+
+-- "range=1048576,1048576,1" as three numbers of eight bytes
+abbrev pub rangeBytes : List ℕ
+rangeBytes = 0 ∷ 0 ∷ 16 ∷ 0 ∷ 0 ∷ 0 ∷ 0 ∷ 0 ∷ 0 ∷ 0 ∷ 16 ∷ 0 ∷ 0 ∷ 0 ∷ 0 ∷ 0 ∷ 1 ∷ 0 ∷ 0 ∷ 0 ∷ 0 ∷ 0 ∷ 0 ∷ 0 ∷ []
+
+pub record Examples : Type 0 where
+  -- "used=480"
+  pub used : readingCrossed (readingOf listedBytes) ≡ 480
+  -- "H alone: HEADER at 8": 5 × 2^32 + 8
+  pub header : readingCrossed (readingOf head) ≡ 21474836488
+  -- the kernel stands behind the platform's 88 bytes; behind the last of four attributes is the end
+  pub next : stepCrossed (stepOf listedBytes (cursorAt 0 8)) ≡ 96
+  pub end : stepCrossed (stepOf listedBytes (cursorAt 4 480)) ≡ 0
+  pub kernel : answerCrossed (attributeStart listedBytes 1) ≡ 96
+  -- "3 with the used length": 3 × 2^32 + 480
+  pub past : answerCrossed (attributeStart listedBytes 4) ≡ 12884902368
+  -- "cmdline=quiet", five bytes at 472: 472 × 2^32 + 5
+  pub line : partCrossed (commandLinePart listedBytes) ≡ 2027224563717
+  -- one entry; 31 bytes count as three numbers, and the seven behind them stay
+  pub copied : crossed (mapCopiedBytes listedBytes (replicate 31 165)) ≡ (1, rangeBytes ++ replicate 7 165)
+  -- 23 bytes count as two: 18 × 2^32 + 480
+  pub short : crossed (mapCopiedBytes listedBytes (replicate 23 165)) ≡ (77309411808, replicate 23 165)
+  -- "12 for a map not of 24n bytes or a GUID not of 16"
+  pub map : mapFormed (replicate 24 0) ≡ true
+  pub mapLeftOver : mapFormed (replicate 32 0) ≡ false
+  pub guids : guidsFormed (replicate 16 0) (replicate 16 0) ≡ true
+  pub diskGuid : guidsFormed (replicate 15 0) (replicate 16 0) ≡ false
+  pub partitionGuid : guidsFormed (replicate 16 0) (replicate 17 0) ≡ false

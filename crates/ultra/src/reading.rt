@@ -1,0 +1,23 @@
+// Reading and stepping.
+ghost use mathlib.Core.Path.{_≡_};
+ghost use Rattle.ultra_reading.specs.Reading.{readingOf};
+ghost use Rattle.ultra_reading.specs.Stepping.{cursorAt, stepOf};
+ghost use Rattle.ultra.specs.Crossing.{readingCrossed, stepCrossed};
+use ultra_reading::Cursor;
+
+// The used length.
+#[no_mangle]
+pub extern "C" fn ultra_read(buf: &[u8]) -> u64
+    ensures { λ r. ⌜ r ≡ readingCrossed (readingOf (now (buf .entry))) ⌝ }
+{
+    crate::answers::of_reading(ultra_reading::read(buf))
+}
+
+// The offset of the cursor behind the attribute at `index` and `offset`, or 0 at the end.
+#[no_mangle]
+pub extern "C" fn ultra_step(buf: &[u8], index: u32, offset: u32) -> u64
+    ensures { λ r. ⌜ r ≡ stepCrossed (stepOf (now (buf .entry)) (cursorAt index offset)) ⌝ }
+{
+    let cursor = Cursor { index, offset };
+    crate::answers::of_step(cursor.step(buf))
+}
