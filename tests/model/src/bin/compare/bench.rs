@@ -1,0 +1,276 @@
+//! Both sides on one buffer: every call is made on the library and on the model, and the
+//! answers and all lent bytes are compared.
+
+use ultra_model::{calls, reading};
+
+use crate::call::{hex, Call, Given, NAMES};
+use crate::ffi;
+use crate::lent::Lent;
+use crate::tally::Tally;
+
+/// How the two sides differ, in words.
+#[derive(Debug)]
+pub struct Difference(pub String);
+
+/// What an input starts with.
+#[derive(Clone, Default)]
+pub struct Start {
+    pub buffer: Given,
+    /// What would come behind the lent bytes.
+    pub beyond: Vec<u8>,
+    /// The used length that reading has to answer, where the bytes were laid out as a
+    /// context.
+    pub expected: Option<usize>,
+}
+
+pub struct Bench {
+    start: Start,
+    buffer: Lent,
+    arguments: [Lent; 3],
+    model: Vec<u8>,
+    model_out: Vec<u8>,
+    /// Whether adding accepts the buffer as it is now, once asked.
+    accepted: Option<bool>,
+    changed: bool,
+    pub tally: Tally,
+    pub verbose: bool,
+}
+
+impl Bench {
+    pub fn new(verbose: bool) -> Bench {
+        Bench {
+            start: Start::default(),
+            buffer: Lent::new(),
+            arguments: [Lent::new(), Lent::new(), Lent::new()],
+            model: Vec::new(),
+            model_out: Vec::new(),
+            accepted: None,
+            changed: false,
+            tally: Tally::default(),
+            verbose,
+        }
+    }
+
+    pub fn start(&mut self, start: Start) {
+        self.tally.buffer(&start.buffer);
+        self.buffer.load(&start.buffer, &start.beyond);
+        self.model.clone_from(&start.buffer.bytes);
+        self.accepted = None;
+        self.changed = false;
+        if self.verbose {
+            eprintln!("buffer {:?}", start.buffer);
+            eprintln!("behind it [{}]", hex(&start.beyond));
+        }
+        self.start = start;
+    }
+
+    /// Back to what the input started with.
+    pub fn restart(&mut self) {
+        if self.changed {
+            self.buffer.restore(&self.start.buffer.bytes);
+            self.model.clone_from(&self.start.buffer.bytes);
+            self.accepted = None;
+            self.changed = false;
+        }
+    }
+
+    /// The buffer as it is now, which is the same on both sides.
+    pub fn bytes(&self) -> &[u8] {
+        &self.model
+    }
+
+    pub fn call(&mut self, call: &Call) -> Result<u64, Difference> {
+        if self.verbose {
+            eprintln!("{call:?}");
+        }
+        let accepted = call.adds()
+            && *self
+                .accepted
+                .get_or_insert_with(|| reading::read(&self.model, 0).is_ok());
+        self.lend_arguments(call);
+        // The library goes first, so that it finds nothing done for it.
+        let library = self.call_library(call);
+        let model = self.call_model(call);
+        let difference = self.difference(call, library, model);
+        if self.verbose {
+            let show = |answer: u64| format!("{} {}", answer >> 32, answer as u32);
+            eprintln!("  library {}, model {}", show(library), show(model));
+        }
+        if let Some(what) = difference {
+            let name = NAMES[call.id()];
+            return Err(Difference(format!(
+                "{name}: {what}\n  arguments: {call:?}\n  library: {library:#x} (number {}, value {})\n  model:   {model:#x} (number {}, value {})",
+                library >> 32,
+                library as u32,
+                model >> 32,
+                model as u32,
+            )));
+        }
+        self.tally.answer(call, library, accepted);
+        if call.changes() && library >> 32 == 0 {
+            self.changed = true;
+            self.accepted = None;
+        }
+        Ok(library)
+    }
+
+    /// Lends the slices that cross besides the buffer, an output among them.
+    fn lend_arguments(&mut self, call: &Call) {
+        for (lent, given) in self.arguments.iter_mut().zip(given(call)) {
+            if let Some(given) = given {
+                self.tally.slice(given);
+                lent.load(given, &[]);
+            }
+        }
+        if let Call::CopyMap { out } = call {
+            self.model_out.clone_from(&out.bytes);
+        }
+    }
+
+    fn call_library(&mut self, call: &Call) -> u64 {
+        let buf = &mut self.buffer;
+        let [first, second, third] = &mut self.arguments;
+        match call {
+            Call::Read => ffi::read(buf),
+            Call::Step { index, offset } => ffi::step(buf, *index, *offset),
+            Call::Begin => ffi::begin(buf),
+            Call::AddPlatform(r) => ffi::add_platform(
+                buf,
+                r.kind,
+                r.loader_major,
+                r.loader_minor,
+                first,
+                r.rsdp,
+                r.higher_half_base,
+                r.depth,
+                r.dtb,
+                r.smbios,
+            ),
+            Call::AddKernel(r) => ffi::add_kernel(
+                buf,
+                r.physical_base,
+                r.virtual_base,
+                r.size,
+                r.partition_type,
+                first,
+                second,
+                r.disk_index,
+                r.partition_index,
+                third,
+            ),
+            Call::AddMap { .. } => ffi::add_map(buf, first),
+            Call::AddModule(r) => ffi::add_module(buf, r.kind, first, r.address, r.size),
+            Call::AddCommandLine { .. } => ffi::add_command_line(buf, first),
+            Call::AddFramebuffer(r) => {
+                ffi::add_framebuffer(buf, r.width, r.height, r.pitch, r.bpp, r.format, r.address)
+            }
+            Call::Attribute { index } => ffi::attribute(buf, *index),
+            Call::CopyMap { .. } => ffi::copy_map(buf, first),
+            Call::CommandLine => ffi::command_line(buf),
+            Call::ModuleHolding { address } => ffi::module_holding(buf, *address),
+        }
+    }
+
+    fn call_model(&mut self, call: &Call) -> u64 {
+        let buf = &mut self.model;
+        match call {
+            Call::Read => calls::read(buf),
+            Call::Step { index, offset } => calls::step(buf, *index, *offset),
+            Call::Begin => calls::begin(buf),
+            Call::AddPlatform(r) => calls::add_platform(
+                buf,
+                r.kind,
+                r.loader_major,
+                r.loader_minor,
+                &r.name.bytes,
+                r.rsdp,
+                r.higher_half_base,
+                r.depth,
+                r.dtb,
+                r.smbios,
+            ),
+            Call::AddKernel(r) => calls::add_kernel(
+                buf,
+                r.physical_base,
+                r.virtual_base,
+                r.size,
+                r.partition_type,
+                &r.disk_guid.bytes,
+                &r.partition_guid.bytes,
+                r.disk_index,
+                r.partition_index,
+                &r.path.bytes,
+            ),
+            Call::AddMap { entries } => calls::add_map(buf, &entries.bytes),
+            Call::AddModule(r) => calls::add_module(buf, r.kind, &r.name.bytes, r.address, r.size),
+            Call::AddCommandLine { text } => calls::add_command_line(buf, &text.bytes),
+            Call::AddFramebuffer(r) => {
+                calls::add_framebuffer(buf, r.width, r.height, r.pitch, r.bpp, r.format, r.address)
+            }
+            Call::Attribute { index } => calls::attribute(buf, *index),
+            Call::CopyMap { .. } => calls::copy_map(buf, &mut self.model_out),
+            Call::CommandLine => calls::command_line(buf),
+            Call::ModuleHolding { address } => calls::module_holding(buf, *address),
+        }
+    }
+
+    fn difference(&self, call: &Call, library: u64, model: u64) -> Option<String> {
+        if let Some(what) = differing("the buffer", &self.buffer, &self.model) {
+            return Some(what);
+        }
+        for (place, (lent, given)) in self.arguments.iter().zip(given(call)).enumerate() {
+            let Some(given) = given else { break };
+            let found = match call {
+                Call::CopyMap { .. } => differing("the output", lent, &self.model_out),
+                _ => differing(PLACES[place], lent, &given.bytes),
+            };
+            if found.is_some() {
+                return found;
+            }
+        }
+        if library != model {
+            return Some("the answers differ".into());
+        }
+        let expected = self.start.expected.filter(|_| !self.changed);
+        match (call, expected) {
+            (Call::Read, Some(used)) if model != used as u64 => Some(format!(
+                "the buffer was laid out as a context of {used} bytes"
+            )),
+            _ => None,
+        }
+    }
+}
+
+const PLACES: [&str; 3] = [
+    "the first slice given",
+    "the second slice given",
+    "the third slice given",
+];
+
+/// The slices of a call, in their order.
+fn given(call: &Call) -> [Option<&Given>; 3] {
+    match call {
+        Call::AddPlatform(r) => [Some(&r.name), None, None],
+        Call::AddKernel(r) => [Some(&r.disk_guid), Some(&r.partition_guid), Some(&r.path)],
+        Call::AddMap { entries } => [Some(entries), None, None],
+        Call::AddModule(r) => [Some(&r.name), None, None],
+        Call::AddCommandLine { text } => [Some(text), None, None],
+        Call::CopyMap { out } => [Some(out), None, None],
+        _ => [None, None, None],
+    }
+}
+
+fn differing(what: &str, lent: &Lent, model: &[u8]) -> Option<String> {
+    if lent.bytes() != model {
+        let pairs = || lent.bytes().iter().zip(model);
+        let at = pairs().position(|(a, b)| a != b)?;
+        let (library, model) = (lent.bytes()[at], model[at]);
+        return Some(format!(
+            "{what} differs first at byte {at}: library {library:#04x}, model {model:#04x}"
+        ));
+    }
+    if !lent.guards_hold() {
+        return Some(format!("bytes before or behind {what} were changed"));
+    }
+    None
+}

@@ -1,0 +1,19 @@
+//! An independent model of the boot context of the Ultra protocol, written
+//! from the paper alone ("01", the build outline and its exact rules).
+//!
+//! [`calls`] has the thirteen calls in the shape they have toward C: lent bytes
+//! and numbers in, a single `u64` out. The modules behind it go by subject:
+//! the [`format`] and its [`records`], [`reading`], [`stepping`],
+//! [`questions`] and [`building`].
+
+#![forbid(unsafe_code)]
+
+pub mod building;
+pub mod calls;
+pub mod format;
+pub mod questions;
+pub mod reading;
+pub mod records;
+pub mod stepping;
+
+pub use format::{Number, Refusal};
