@@ -1,0 +1,69 @@
+//! The calls of `libultra.a` that are measured, as include/ultra.h declares them.
+
+extern "C" {
+    pub fn ultra_read(buf: *const u8, buf_len: usize) -> u64;
+    pub fn ultra_attribute(buf: *const u8, buf_len: usize, index: u64) -> u64;
+    pub fn ultra_copy_map(buf: *const u8, buf_len: usize, out: *mut u8, out_len: usize) -> u64;
+    pub fn ultra_begin(buf: *mut u8, buf_len: usize) -> u64;
+    pub fn ultra_add_platform(
+        buf: *mut u8,
+        buf_len: usize,
+        kind: u32,
+        loader_major: u16,
+        loader_minor: u16,
+        name: *const u8,
+        name_len: usize,
+        rsdp: u64,
+        higher_half_base: u64,
+        depth: u8,
+        dtb: u64,
+        smbios: u64,
+    ) -> u64;
+    pub fn ultra_add_kernel(
+        buf: *mut u8,
+        buf_len: usize,
+        physical_base: u64,
+        virtual_base: u64,
+        size: u64,
+        partition_type: u64,
+        disk_guid: *const u8,
+        disk_guid_len: usize,
+        partition_guid: *const u8,
+        partition_guid_len: usize,
+        disk_index: u32,
+        partition_index: u32,
+        path: *const u8,
+        path_len: usize,
+    ) -> u64;
+    pub fn ultra_add_map(
+        buf: *mut u8,
+        buf_len: usize,
+        entries: *const u8,
+        entries_len: usize,
+    ) -> u64;
+    pub fn ultra_add_module(
+        buf: *mut u8,
+        buf_len: usize,
+        kind: u32,
+        name: *const u8,
+        name_len: usize,
+        address: u64,
+        size: u64,
+    ) -> u64;
+    pub fn ultra_add_command_line(
+        buf: *mut u8,
+        buf_len: usize,
+        text: *const u8,
+        text_len: usize,
+    ) -> u64;
+    pub fn ultra_add_framebuffer(
+        buf: *mut u8,
+        buf_len: usize,
+        width: u32,
+        height: u32,
+        pitch: u32,
+        bpp: u16,
+        format: u16,
+        address: u64,
+    ) -> u64;
+}
