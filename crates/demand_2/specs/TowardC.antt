@@ -1,7 +1,7 @@
 -- Statement: an add of members given one by one, as the calls toward C make it (crate ultra), is a call of demand 2. Where it is accepted,
 -- it is the add of the record, the numbers or the text with these members, which each row names; where it is refused, it leaves the buffer
--- as it was. So over a sequence of calls from C too the buffer follows the list of what was accepted. (Which refusal is given is said by
--- `addedMembers`, not here: a GUID or a map of another length is no record's.) Proved in proofs/TowardC.antt: `toward-c`.
+-- as it was. So over a sequence of calls from C too the buffer follows the list of what was accepted. (Which refusal is given, also
+-- for a GUID or a map of another length, is `AddingRefuses` of crate ultra_building.) Proved in proofs/TowardC.antt: `toward-c`.
 -- Assumes of the arguments that they are of their types, as every C caller's are.
 use Prim.Native.Nat.{ℕ, _<_, _^_}
 use mathlib.Core.Path.{_≡_}

@@ -15,7 +15,7 @@ use Rattle.ultra_format.specs.Contexts.{Body, typeOf, Context, used}
 use Rattle.ultra_format.specs.Layouts.{roomOf}
 use Rattle.ultra_format.specs.Decoding.{storedCount, typesBefore}
 use Rattle.ultra_format.specs.Plain.{writtenSize}
-use Rattle.ultra_format.specs.Additions.{Addition, typeGiven, sizeGiven, bodyGiven, formed, newBytes, givenFault, additionFault}
+use Rattle.ultra_format.specs.Additions.{Addition, bodyGiven, formed, newBytes, givenFault}
 use Rattle.ultra_format.specs.declared.Refusal.{Refusal}
 use Rattle.ultra_format.specs.declared.Answer.{Answer}
 use Rattle.ultra_format.specs.declared.Answer.the-variants.{Done, Refused}
@@ -120,9 +120,17 @@ add-faulty b f g x y t s e n =
 
 -- ---- an add to a buffer that holds a context
 -- the number that it gives
+abbrev pub membersFaultOn : List ℕ → Context → Bool → Body → ℕ
+membersFaultOn b c f x = placementFault (typesBefore b (storedCount b)) (roomOf b) (used c) (typeOf x) (givenFault f x) (writtenSize x)
+
+pub members-held : (b : List ℕ) (c : Context) (f : Bool) (x : Body) → HeldBy 0 b c
+    → addedMembers b f x ≡ addedAt b x (orRefused (membersFaultOn b c f x) (used c) (Done (used c)))
+unfolding addedMembers placement
+members-held b c f x h = rw (complete 0 b c (h .0) (h .1))
+
+-- the same of what an add is given
 abbrev pub faultOn : List ℕ → Context → Addition → ℕ
-faultOn b c g = placementFault (typesBefore b (storedCount b)) (roomOf b) (used c) (typeGiven g) (additionFault g) (sizeGiven g)
+faultOn b c g = membersFaultOn b c (formed g) (bodyGiven g)
 
 pub added-held : (b : List ℕ) (c : Context) (g : Addition) → HeldBy 0 b c → added b g ≡ addedAt b (bodyGiven g) (orRefused (faultOn b c g) (used c) (Done (used c)))
-unfolding addedMembers placement
-added-held b c g h = rw (complete 0 b c (h .0) (h .1))
+added-held b c g h = members-held b c (formed g) (bodyGiven g) h

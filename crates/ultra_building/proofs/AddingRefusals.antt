@@ -1,34 +1,29 @@
 -- Proofs of the statements in specs/AddingRefusals.antt: the chain of tests that an add goes through answers the first number whose
 -- condition is met (`decided`), and reading goes before it.
 -- Assumes nothing.
-use Prim.Native.Nat.{ℕ, _+_, _-_, _≤_, _<_}
+use Prim.Native.Nat.{ℕ, _+_, _-_, _*_, _≤_, _<_}
 use mathlib.Core.Path.{_≡_, refl, sym, ap, _∙_, subst}
-use mathlib.Core.Bool.{Bool, true, false, _&&_, true≢false, and-false}
+use mathlib.Core.Bool.{Bool, true, false, _&&_, true≢false}
 use mathlib.Core.List.{List}
 use mathlib.Core.Logic.{_↔_, _⊎_, _⊎_.inl, _⊎_.inr, ⊎-elim}
 use native.Mathlib.Omega.{arith}
+use lib.ListN.{length}
 use lib.Dec.{leb, ltb, eqb}
 use borrow.Author.Tests.{lt-leb, leb-false, ltb-true, ltb-false, eqb-true, eqb-false, eq-eqb, ne-eqb}
 use Rattle.byte_layout.specs.Stored.{Bytes}
 use Rattle.ultra_format.specs.Refusals.{unless, firstOf, PLACE, REPEAT, SPLIT, FORM, VALUE, TEXT, RANGE, ORDER, FULL, ROOM}
 use Rattle.ultra_format.specs.Answers.{refused, numberOf, valueOf}
-use Rattle.ultra_format.specs.Contexts.{Context, count, typeAt, used}
+use Rattle.ultra_format.specs.Contexts.{Member, Platform, Body, typeOf, Context, count, typeAt, used}
+use Rattle.ultra_format.specs.Contexts.{Member.present, Member.absent, Body.platform, Body.kernel, Body.memoryMap, Body.moduleInfo, Body.commandLine, Body.framebuffer, Body.other}
 use Rattle.ultra_format.specs.Layouts.{roomOf}
 use Rattle.ultra_format.specs.Members.{presentIf, sizeSuits, values, texts, ranges, ordered, bodyFault}
 use Rattle.ultra_format.specs.Plain.{writtenSize}
 use Rattle.ultra_format.specs.Places.{placeFault}
-use Rattle.ultra_format.specs.Records.{memberOfU64, memberOfU8}
 use Rattle.ultra_format.specs.Decoding.{storedType, storedCount, contextOf, typesBefore}
-use Rattle.ultra_format.specs.Additions.{Addition, bodyGiven, typeGiven, sizeGiven, formed, additionFault, givenFault}
-use Rattle.ultra_format.specs.Additions.{Addition.addPlatform, Addition.addKernel, Addition.addMap, Addition.addModule, Addition.addCommandLine, Addition.addFramebuffer}
+use Rattle.ultra_format.specs.Additions.{givenFault}
 use Rattle.ultra_format.specs.declared.Refusal.{Refusal}
 use Rattle.ultra_format.specs.declared.Answer.{Answer}
 use Rattle.ultra_format.specs.declared.Answer.the-variants.{Done, Refused}
-use Rattle.ultra_format.specs.declared.records.PlatformRecord.{PlatformRecord}
-use Rattle.ultra_format.specs.declared.records.OptionalU64.{OptionalU64}
-use Rattle.ultra_format.specs.declared.records.OptionalU64.the-variants as wide
-use Rattle.ultra_format.specs.declared.records.OptionalU8.{OptionalU8}
-use Rattle.ultra_format.specs.declared.records.OptionalU8.the-variants as narrow
 use Rattle.ultra_format.proofs.Chains.{refuses}
 use Rattle.ultra_format.proofs.Decoded.{count-decoded, type-decoded, decoded-only}
 use Rattle.ultra_reading.specs.Reading.{usedLength}
@@ -39,72 +34,73 @@ use Rattle.ultra_acceptance.proofs.Acceptance.{accepts-exactly}
 use Rattle.ultra_acceptance.proofs.Least.{Chain, ends, try, past as beyond, link, then, settled}
 use Rattle.ultra_acceptance.proofs.Refusing.{refuses-exactly}
 use Rattle.ultra_acceptance.proofs.Rows.{Misplaced, Earlier, Repeated, Parted, place-chain}
-use Rattle.ultra_building.specs.Building.{placementFault, placement, added, addedAt, addedMembers}
+use Rattle.ultra_building.specs.Building.{placementFault, placement, addedAt, addedMembers}
 use Rattle.ultra_building.specs.AddingRefusals.{Occurs, Incomplete, AdditionBreaks, rank, FirstBroken, AddRefused, AddingRefuses, AddingSucceeds}
 use Rattle.ultra_building.specs.AddingRefusals.{AdditionBreaks.full, AdditionBreaks.first, AdditionBreaks.second, AdditionBreaks.later, AdditionBreaks.repeat, AdditionBreaks.split}
-use Rattle.ultra_building.specs.AddingRefusals.{AdditionBreaks.leftOver, AdditionBreaks.incomplete, AdditionBreaks.value, AdditionBreaks.text, AdditionBreaks.range, AdditionBreaks.order, AdditionBreaks.past}
+use Rattle.ultra_building.specs.AddingRefusals.{AdditionBreaks.unformed, AdditionBreaks.incomplete, AdditionBreaks.value, AdditionBreaks.text, AdditionBreaks.range, AdditionBreaks.order, AdditionBreaks.past}
 use Rattle.ultra_building.specs.AddingRefusals.{AddRefused.reading, AddRefused.adding}
-use Rattle.ultra_building.proofs.Adding.{faultOn, added-held}
+use Rattle.ultra_building.proofs.Adding.{membersFaultOn, members-held}
 
--- ---- 12, a platform record
-abbrev platformSuits : PlatformRecord → Bool
-platformSuits r = sizeSuits (sizeGiven (addPlatform r)) (bodyGiven (addPlatform r))
+-- ---- 12, a platform
+there : {n : ℕ} → present n ≡ absent → ⊥
+there e = let z : _≡_ {A = ℕ} 0 1 = cc in omega arith
 
-on-incomplete : (r : PlatformRecord) → Incomplete r → platformSuits r ≡ false
-unfolding bodyGiven writtenSize sizeSuits
-on-incomplete r = ⊎-elim (λ e. simp e) (⊎-elim (λ e. simp (e, and-false)) (⊎-elim (λ e. simp (e, and-false)) (λ e. simp (e, and-false))))
-
-is-incomplete : (r : PlatformRecord) → platformSuits r ≡ false → Incomplete r
-unfolding bodyGiven writtenSize sizeSuits
-is-incomplete r = go (r .«higher_half_base») (r .depth) (r .dtb) (r .smbios)
+on-incomplete : (p : Platform) → Incomplete p → sizeSuits 88 (platform p) ≡ false
+unfolding sizeSuits
+on-incomplete p = go (p .higherHalfBase) (p .depth) (p .dtb) (p .smbios)
   where
-    go : (h : OptionalU64) (d : OptionalU8) (t m : OptionalU64)
-        → (presentIf true (memberOfU64 h) && presentIf true (memberOfU8 d) && presentIf true (memberOfU64 t) && presentIf true (memberOfU64 m)) ≡ false
-        → (h ≡ wide.Absent) ⊎ (d ≡ narrow.Absent) ⊎ (t ≡ wide.Absent) ⊎ (m ≡ wide.Absent)
-    go wide.Absent d t m e = inl refl
-    go (wide.Present h) narrow.Absent t m e = inr (inl refl)
-    go (wide.Present h) (narrow.Present d) wide.Absent m e = inr (inr (inl refl))
-    go (wide.Present h) (narrow.Present d) (wide.Present t) wide.Absent e = inr (inr (inr refl))
-    go (wide.Present h) (narrow.Present d) (wide.Present t) (wide.Present m) e = absurd (true≢false e)
+    go : (h d t m : Member) → (h ≡ absent) ⊎ (d ≡ absent) ⊎ (t ≡ absent) ⊎ (m ≡ absent)
+        → (presentIf true h && presentIf true d && presentIf true t && presentIf true m) ≡ false
+    go absent d t m k = refl
+    go (present h) absent t m k = refl
+    go (present h) (present d) absent m k = refl
+    go (present h) (present d) (present t) absent k = refl
+    go (present h) (present d) (present t) (present m) k = absurd (⊎-elim there (⊎-elim there (⊎-elim there there)) k)
+
+is-incomplete : (p : Platform) → sizeSuits 88 (platform p) ≡ false → Incomplete p
+unfolding sizeSuits
+is-incomplete p = go (p .higherHalfBase) (p .depth) (p .dtb) (p .smbios)
+  where
+    go : (h d t m : Member) → (presentIf true h && presentIf true d && presentIf true t && presentIf true m) ≡ false
+        → (h ≡ absent) ⊎ (d ≡ absent) ⊎ (t ≡ absent) ⊎ (m ≡ absent)
+    go absent d t m e = inl refl
+    go (present h) absent t m e = inr (inl refl)
+    go (present h) (present d) absent m e = inr (inr (inl refl))
+    go (present h) (present d) (present t) absent e = inr (inr (inr refl))
+    go (present h) (present d) (present t) (present m) e = absurd (true≢false e)
 
 -- ---- 12, and which numbers there are
-module _ (room : ℕ) (c : Context) where
-  is-left-over : (g : Addition) → formed g ≡ false → AdditionBreaks room c g FORM
-  is-left-over (addPlatform r) e = absurd (true≢false e)
-  is-left-over (addKernel r) e = absurd (true≢false e)
-  is-left-over (addMap ns) e = leftOver ns refl (eqb-false _ _ e)
-  is-left-over (addModule r) e = absurd (true≢false e)
-  is-left-over (addCommandLine t) e = absurd (true≢false e)
-  is-left-over (addFramebuffer r) e = absurd (true≢false e)
-
+module _ (room : ℕ) (c : Context) (ok : Bool) where
   -- the written size suits every other body
-  is-unsuited : (g : Addition) → sizeSuits (sizeGiven g) (bodyGiven g) ≡ false → AdditionBreaks room c g FORM
-  unfolding bodyGiven writtenSize sizeSuits
-  is-unsuited (addPlatform r) e = incomplete r refl (is-incomplete r e)
-  is-unsuited (addKernel r) e = absurd (true≢false e)
-  is-unsuited (addMap ns) e = absurd (true≢false (sym (eq-eqb (sizeGiven (addMap ns)) _ refl) ∙ e))
-  is-unsuited (addModule r) e = absurd (true≢false e)
-  is-unsuited (addCommandLine t) e = absurd (omega (arith, leb-false 16 (sizeGiven (addCommandLine t)) e))
-  is-unsuited (addFramebuffer r) e = absurd (true≢false e)
+  is-unsuited : (given : Body) → sizeSuits (writtenSize given) given ≡ false → AdditionBreaks room c ok given FORM
+  unfolding writtenSize sizeSuits
+  is-unsuited (platform p) e = incomplete p refl (is-incomplete p e)
+  is-unsuited (kernel k) e = absurd (true≢false e)
+  is-unsuited (memoryMap es) e = absurd (true≢false (sym (eq-eqb (8 + 24 * length es) (8 + 24 * length es) refl) ∙ e))
+  is-unsuited (moduleInfo m) e = absurd (true≢false e)
+  is-unsuited (commandLine t) e = absurd (omega (arith, leb-false 16 (writtenSize (commandLine t)) e))
+  is-unsuited (framebuffer f) e = absurd (true≢false e)
+  is-unsuited (other t) e = absurd (true≢false e)
 
-  off-form : (g : Addition) → formed g ≡ true → sizeSuits (sizeGiven g) (bodyGiven g) ≡ true → AdditionBreaks room c g FORM → ⊥
-  off-form g e q (leftOver ns i n) = n (eqb-true _ _ (subst (λ (x : Addition). formed x ≡ true) i e))
-  off-form g e q (incomplete r i k) = true≢false (sym (subst (λ (x : Addition). sizeSuits (sizeGiven x) (bodyGiven x) ≡ true) i q) ∙ on-incomplete r k)
+  off-form : (given : Body) → ok ≡ true → sizeSuits (writtenSize given) given ≡ true → AdditionBreaks room c ok given FORM → ⊥
+  unfolding writtenSize
+  off-form given e q (unformed n) = true≢false (sym e ∙ n)
+  off-form given e q (incomplete p i k) = true≢false (sym (subst (λ (x : Body). sizeSuits (writtenSize x) x ≡ true) i q) ∙ on-incomplete p k)
 
-  in-adding : (g : Addition) (m : ℕ) → AdditionBreaks room c g m → (9 ≤ m) × (m < 19)
-  in-adding g m (full h) = (omega arith, omega arith)
-  in-adding g m (first e h) = (omega arith, omega arith)
-  in-adding g m (second e h) = (omega arith, omega arith)
-  in-adding g m (later e h) = (omega arith, omega arith)
-  in-adding g m (repeat s o) = (omega arith, omega arith)
-  in-adding g m (split s o n) = (omega arith, omega arith)
-  in-adding g m (leftOver ns e h) = (omega arith, omega arith)
-  in-adding g m (incomplete r e h) = (omega arith, omega arith)
-  in-adding g m (value h) = (omega arith, omega arith)
-  in-adding g m (text h) = (omega arith, omega arith)
-  in-adding g m (range h) = (omega arith, omega arith)
-  in-adding g m (order h) = (omega arith, omega arith)
-  in-adding g m (past h) = (omega arith, omega arith)
+  in-adding : (given : Body) (m : ℕ) → AdditionBreaks room c ok given m → (9 ≤ m) × (m < 19)
+  in-adding given m (full h) = (omega arith, omega arith)
+  in-adding given m (first e h) = (omega arith, omega arith)
+  in-adding given m (second e h) = (omega arith, omega arith)
+  in-adding given m (later e h) = (omega arith, omega arith)
+  in-adding given m (repeat s o) = (omega arith, omega arith)
+  in-adding given m (split s o n) = (omega arith, omega arith)
+  in-adding given m (unformed e) = (omega arith, omega arith)
+  in-adding given m (incomplete p e h) = (omega arith, omega arith)
+  in-adding given m (value h) = (omega arith, omega arith)
+  in-adding given m (text h) = (omega arith, omega arith)
+  in-adding given m (range h) = (omega arith, omega arith)
+  in-adding given m (order h) = (omega arith, omega arith)
+  in-adding given m (past h) = (omega arith, omega arith)
 
 -- ---- the first number
 -- a chain's answer: 0 where none breaks, else the first that does
@@ -141,15 +137,15 @@ module _ {breaks : ℕ → Type 0} where
       ranked m x = rank-other m (λ e. few (subst breaks e x))
 
 -- ---- the rows of an add to b
-module _ (b : List ℕ) (g : Addition) where
+module _ (b : List ℕ) (ok : Bool) (given : Body) where
   abbrev now : Context
   now = contextOf b
 
   abbrev t : ℕ
-  t = typeGiven g
+  t = typeOf given
 
   abbrev Row : ℕ → Type 0
-  Row = AdditionBreaks (roomOf b) now g
+  Row = AdditionBreaks (roomOf b) now ok given
 
   -- 9 to 11
   of-place : Row PLACE → Misplaced (count now) t
@@ -182,52 +178,52 @@ module _ (b : List ℕ) (g : Addition) where
       (of-split, λ x. split (x .0) (of-earlier (x .1)) (λ e. x .2 (sym (nearest (x .1)) ∙ e)))
 
   -- 12 to 16
-  on-value : Row VALUE → values (bodyGiven g) ≡ false
+  on-value : Row VALUE → values given ≡ false
   on-value (value e) = e
 
-  on-text : Row TEXT → texts (sizeGiven g) (bodyGiven g) ≡ false
+  on-text : Row TEXT → texts (writtenSize given) given ≡ false
   on-text (text e) = e
 
-  on-range : Row RANGE → ranges (bodyGiven g) ≡ false
+  on-range : Row RANGE → ranges given ≡ false
   on-range (range e) = e
 
-  on-order : Row ORDER → ordered (bodyGiven g) ≡ false
+  on-order : Row ORDER → ordered given ≡ false
   on-order (order e) = e
 
-  given-chain : Chain Row 12 17 (additionFault g)
+  given-chain : Chain Row 12 17 (givenFault ok given)
   unfolding givenFault bodyFault
   given-chain =
-      try (formed g) (is-left-over (roomOf b) now g) (λ e.
-      try (sizeSuits (sizeGiven g) (bodyGiven g)) (is-unsuited (roomOf b) now g) (λ q.
-      beyond (off-form (roomOf b) now g e q)
+      try ok unformed (λ e.
+      try (sizeSuits (writtenSize given) given) (is-unsuited (roomOf b) now ok given) (λ q.
+      beyond (off-form (roomOf b) now ok given e q)
       (link _ value on-value (link _ text on-text (link _ range on-range (link _ order on-order ends))))))
 
   -- 17 and 18
   on-full : Row FULL → 1024 ≤ storedCount b
   on-full (full h) = rw count-decoded at h
 
-  on-past : Row ROOM → leb (used now + sizeGiven g) (roomOf b) ≡ false
+  on-past : Row ROOM → leb (used now + writtenSize given) (roomOf b) ≡ false
   on-past (past h) = lt-leb _ _ h
 
   -- all of them
-  decided : Decided Row (faultOn b now g)
+  decided : Decided Row (membersFaultOn b now ok given)
   unfolding placementFault
   decided = rw length-types (go (ltb (storedCount b) 1024) refl)
     where
       go : (x : Bool) → ltb (storedCount b) 1024 ≡ x
-          → Decided Row (unless x FULL (firstOf (placeFault (typesBefore b (storedCount b)) t) (firstOf (additionFault g) (unless (leb (used now + sizeGiven g) (roomOf b)) ROOM 0))))
+          → Decided Row (unless x FULL (firstOf (placeFault (typesBefore b (storedCount b)) t) (firstOf (givenFault ok given) (unless (leb (used now + writtenSize given) (roomOf b)) ROOM 0))))
       go false e = inr (λ z. omega arith, (full (rw count-decoded (ltb-false _ _ e)), λ m h. absurd (omega (arith, rank-full FULL refl))))
       go true e =
           let few : Row FULL → ⊥ = λ x. omega (arith, on-full x, ltb-true (storedCount b) 1024 e) in
           ⊎-elim inl (λ r. inr (r .0, least-first few (r .1)))
-          (settled (in-adding (roomOf b) now g) (then _ _ types-chain (then _ _ given-chain (beyond few (link _ (λ e. past (leb-false _ _ e)) on-past ends)))))
+          (settled (in-adding (roomOf b) now ok given) (then _ _ types-chain (then _ _ given-chain (beyond few (link _ (λ e. past (leb-false _ _ e)) on-past ends)))))
 
 -- ---- what an add answers
 clash : {P : Type 0} {v : ℕ} {r : Refusal} {a : Answer} → a ≡ Done v → a ≡ Refused r → P
 clash p q = absurd (let z : _≡_ {A = ℕ} 0 1 = cc in omega arith)
 
-module _ (b : List ℕ) (g : Addition) where
-  unread : (r : Refusal) → usedLength 0 b ≡ Refused r → added b g .0 ≡ Refused r
+module _ (b : List ℕ) (ok : Bool) (given : Body) where
+  unread : (r : Refusal) → usedLength 0 b ≡ Refused r → addedMembers b ok given .0 ≡ Refused r
   unfolding addedMembers placement
   unread r e = rw e
 
@@ -239,55 +235,56 @@ module _ (b : List ℕ) (g : Addition) where
       go (Done n) e = let h = accepts-exactly 0 b n y .0 e in inr (h .0, h .1)
 
   abbrev Broken : Context → ℕ → Type 0
-  Broken c = AdditionBreaks (roomOf b) c g
+  Broken c = AdditionBreaks (roomOf b) c ok given
 
-  outcome : (c : Context) → HeldBy 0 b c → ((added b g .0 ≡ Done (used c + sizeGiven g)) × NoneBreaks (Broken c)) ⊎ ((n : ℕ) × (added b g .0 ≡ refused n (used c)) × FirstBroken (Broken c) n)
+  outcome : (c : Context) → HeldBy 0 b c → ((addedMembers b ok given .0 ≡ Done (used c + writtenSize given)) × NoneBreaks (Broken c)) ⊎ ((n : ℕ) × (addedMembers b ok given .0 ≡ refused n (used c)) × FirstBroken (Broken c) n)
   outcome c h =
       let q = decoded-only 0 (roomOf b) b c (h .0) (h .1) in
-      rw (added-held b c g h)
-      (⊎-elim (λ r. inl (rw (r .0), r .1)) (λ r. inr (faultOn b c g, rw (refuses _ _ _ (r .0)), r .1))
-      (subst (λ (d : Context). Decided (Broken d) (faultOn b d g)) (sym q) (decided b g)))
+      rw (members-held b c ok given h)
+      (⊎-elim (λ r. inl (rw (r .0), r .1)) (λ r. inr (membersFaultOn b c ok given, rw (refuses _ _ _ (r .0)), r .1))
+      (subst (λ (d : Context). Decided (Broken d) (membersFaultOn b d ok given)) (sym q) (decided b ok given)))
 
-  to-refuse : (n o : ℕ) → Bytes b → added b g .0 ≡ refused n o → AddRefused b g n o
+  to-refuse : (n o : ℕ) → Bytes b → addedMembers b ok given .0 ≡ refused n o → AddRefused b ok given n o
   to-refuse n o y e =
       ⊎-elim (λ u. reading o (refuses-exactly 0 b n o .0 (u .1 ∙ sym (unread (u .0) (u .1)) ∙ e)))
       (λ h. ⊎-elim (λ d. clash (d .0) e) (λ r. same (h .0) (h .1) (r .0) (r .2) (sym (r .1) ∙ e)) (outcome (h .0) (h .1))) (read-or y)
     where
-      same : (c : Context) → HeldBy 0 b c → (k : ℕ) → FirstBroken (Broken c) k → refused k (used c) ≡ refused n o → AddRefused b g n o
+      same : (c : Context) → HeldBy 0 b c → (k : ℕ) → FirstBroken (Broken c) k → refused k (used c) ≡ refused n o → AddRefused b ok given n o
       same c h k f q =
           let x : k ≡ n = ap numberOf q in
           let z : used c ≡ o = ap valueOf q in
           rw (← z, ← x) (adding c h f)
 
-  is-refused : (n o : ℕ) → AddRefused b g n o → added b g .0 ≡ refused n o
+  is-refused : (n o : ℕ) → AddRefused b ok given n o → addedMembers b ok given .0 ≡ refused n o
   is-refused n o (reading p r) = unread _ (refuses-exactly 0 b n p .1 r)
   is-refused n o (adding c h f) =
       ⊎-elim (λ d. absurd (d .1 n (f .0)))
-      (λ r. r .1 ∙ ap (λ (k : ℕ). refused k (used c)) (first-only (λ m x. omega (arith, in-adding (roomOf b) c g m x .0)) (r .2) f)) (outcome c h)
+      (λ r. r .1 ∙ ap (λ (k : ℕ). refused k (used c)) (first-only (λ m x. omega (arith, in-adding (roomOf b) c ok given m x .0)) (r .2) f)) (outcome c h)
 
   abbrev Succeeds : ℕ → Type 0
-  Succeeds m = (c : Context) × HeldBy 0 b c × NoneBreaks (Broken c) × (m ≡ used c + sizeGiven g)
+  Succeeds m = (c : Context) × HeldBy 0 b c × NoneBreaks (Broken c) × (m ≡ used c + writtenSize given)
 
-  to-succeed : (m : ℕ) → Bytes b → added b g .0 ≡ Done m → Succeeds m
+  to-succeed : (m : ℕ) → Bytes b → addedMembers b ok given .0 ≡ Done m → Succeeds m
   to-succeed m y e =
       ⊎-elim (λ u. clash e (unread (u .0) (u .1)))
       (λ h. ⊎-elim (λ d. (h .0, h .1, d .1, ap valueOf (sym e ∙ d .0))) (λ r. clash e (r .1)) (outcome (h .0) (h .1))) (read-or y)
 
-  is-done : (m : ℕ) → Succeeds m → added b g .0 ≡ Done m
+  is-done : (m : ℕ) → Succeeds m → addedMembers b ok given .0 ≡ Done m
   is-done m d = ⊎-elim (λ a. a .0 ∙ ap Done (sym (d .3))) (λ r. absurd (d .2 (r .0) (r .2 .0))) (outcome (d .0) (d .1))
 
   -- a refusal leaves the buffer as it was
-  kept : (r : Refusal) → added b g .0 ≡ Refused r → added b g ≡ (Refused r, b)
+  kept : (r : Refusal) → addedMembers b ok given .0 ≡ Refused r → addedMembers b ok given ≡ (Refused r, b)
   unfolding addedMembers
-  kept r e = go (placement b (typeGiven g) (additionFault g) (sizeGiven g)) e
+  kept r e = go (placement b (typeOf given) (givenFault ok given) (writtenSize given)) e
     where
-      go : (p : Answer) → addedAt b (bodyGiven g) p .0 ≡ Refused r → addedAt b (bodyGiven g) p ≡ (Refused r, b)
+      go : (p : Answer) → addedAt b given p .0 ≡ Refused r → addedAt b given p ≡ (Refused r, b)
       go (Done m) w = absurd (let z : _≡_ {A = ℕ} 0 1 = cc in omega arith)
       go (Refused s) w = ap (λ (a : Answer). (a, b)) w
 
 -- ---- the statements
 pub adding-refuses : AddingRefuses
-adding-refuses b g n o y = (λ e. to-refuse b g n o y (ap (λ (r : Answer × List ℕ). r .0) e), λ r. kept b g _ (is-refused b g n o r))
+adding-refuses b ok given n o y =
+    (λ e. to-refuse b ok given n o y (ap (λ (r : Answer × List ℕ). r .0) e), λ r. kept b ok given _ (is-refused b ok given n o r))
 
 pub adding-succeeds : AddingSucceeds
-adding-succeeds b g m y = (to-succeed b g m y, is-done b g m)
+adding-succeeds b ok given m y = (to-succeed b ok given m y, is-done b ok given m)
