@@ -1,6 +1,6 @@
 -- Proofs of the statements in specs/QuestionRefusals.antt: the questions answer by the context, whose one attribute of type 3 is its map.
 -- Assumes nothing.
-use Prim.Native.Nat.{ℕ, _*_, _≤_, _<_}
+use Prim.Native.Nat.{ℕ, _*_, _/_, _≤_, _<_}
 use mathlib.Core.Path.{_≡_, refl, sym, ap, _∙_}
 use mathlib.Core.Bool.{Bool, true, false}
 use mathlib.Core.List.{List}
@@ -10,6 +10,8 @@ use lib.ListN.{length}
 use lib.Dec.{leb, ltb}
 use borrow.Author.Tests.{leb-false, lt-leb, ltb-false, le-ltb, eqb-true, eqb-false}
 use Rattle.byte_layout.specs.Stored.{over}
+use Rattle.words.specs.Words.{numbersIn}
+use Rattle.words.proofs.Numbers.{length-numbers}
 use Rattle.ultra_format.specs.Refusals.{COUNT, ROOM, ABSENT}
 use Rattle.ultra_format.specs.Answers.{refused, numberOf, valueOf}
 use Rattle.ultra_format.specs.Contexts.{Entry, Body, typeOf, Context, count, bodyAt, typeAt, startIn, used}
@@ -19,9 +21,10 @@ use Rattle.ultra_format.specs.Rules.{TypeSuits, Meets}
 use Rattle.ultra_format.specs.Decoding.{pick}
 use Rattle.ultra_format.specs.declared.Answer.{Answer}
 use Rattle.ultra_format.specs.declared.Answer.the-variants.{Done}
+use Rattle.ultra_acceptance.specs.Acceptance.{HeldBy}
 use Rattle.ultra_questions.specs.Searching.{firstIn, ofType}
 use Rattle.ultra_questions.specs.AttributeQuestion.{startOrCount, attributeStart, attributeAnswer}
-use Rattle.ultra_questions.specs.MapQuestion.{numbers, entriesOf, entriesCopied, mapIn, mapCopied}
+use Rattle.ultra_questions.specs.MapQuestion.{numbers, entriesOf, entriesCopied, mapIn, mapCopied, mapCopiedBytes}
 use Rattle.ultra_questions.specs.CommandLineQuestion.{commandLinePart}
 use Rattle.ultra_questions.specs.ModuleQuestion.{moduleHolding}
 use Rattle.ultra_questions.specs.QuestionRefusals.{NoMap, TooShort, QuestionsRefuseExactly, RefusalsPassOn}
@@ -97,12 +100,12 @@ module _ (room : ℕ) (c : Context) (m : Meets 2 room c) (out : List ℕ) where
         let q = one-map i (f .index) h (f .below) (ap typeOf e) typed in
         ap entriesOf (sym e ∙ ap (bodyAt c) q ∙ map-found .1)
 
-    short-map : TooShort c out → length out < 3 * length (map-found .0)
+    short-map : TooShort c (length out) → length out < 3 * length (map-found .0)
     short-map s = rw (same-entries (s .0) (s .1) (s .2) (s .3)) at (s .4)
 
   -- why the map question refuses, what it then leaves, and that it does
   abbrev Why : ℕ → ℕ → Type 0
-  Why n o = (o ≡ used c) × (((n ≡ ABSENT) × NoMap c) ⊎ ((n ≡ ROOM) × TooShort c out))
+  Why n o = (o ≡ used c) × (((n ≡ ABSENT) × NoMap c) ⊎ ((n ≡ ROOM) × TooShort c (length out)))
 
   why : Outcome (ofType 3) (c .attributes) (firstIn (ofType 3) c) → (n o : ℕ) → mapIn c out .0 ≡ refused n o → Why n o × (mapIn c out .1 ≡ out)
   why (inl r) n o q =
@@ -116,7 +119,7 @@ module _ (room : ℕ) (c : Context) (m : Meets 2 room c) (out : List ℕ) where
   absent (inl r) z = rw (r .0)
   absent (inr f) z = absurd (z (f .index) (f .below) (typed f))
 
-  short : Outcome (ofType 3) (c .attributes) (firstIn (ofType 3) c) → TooShort c out → mapIn c out .0 ≡ refused ROOM (used c)
+  short : Outcome (ofType 3) (c .attributes) (firstIn (ofType 3) c) → TooShort c (length out) → mapIn c out .0 ≡ refused ROOM (used c)
   short (inl r) s = absurd (eqb-false (typeAt c (s .0)) 3 (r .1 (s .0) (s .2)) (ap typeOf (s .3)))
   short (inr f) s = rw (copied f) (short-copied (used c) (map-found f .0) out (short-map f s))
 
@@ -128,12 +131,23 @@ module _ (room : ℕ) (c : Context) (m : Meets 2 room c) (out : List ℕ) where
   refuses n o (e, inr (k, s)) = rw (e, k) (short (outcome (ofType 3) 8 (c .attributes)) s)
 
 -- ---- the statements
+module _ (b : List ℕ) (c : Context) (h : HeldBy 2 b c) where
+  map-refuses : (out : List ℕ) (n o : ℕ) → (mapCopied b out .0 ≡ refused n o) ↔ Why (roomOf b) c (h .0) out n o
+  map-refuses out n o =
+      rw (questions-by-context b c h .maps out) (λ e. because (roomOf b) c (h .0) out n o e .0, refuses (roomOf b) c (h .0) out n o)
+
+  bytes-refuse : (out : List ℕ) (n o : ℕ)
+      → (mapCopiedBytes b out .0 ≡ refused n o) ↔ ((o ≡ used c) × (((n ≡ ABSENT) × NoMap c) ⊎ ((n ≡ ROOM) × TooShort c (length out / 8))))
+  unfolding mapCopiedBytes
+  bytes-refuse out n o = rw (length-numbers out 0 (length out / 8)) at (map-refuses (numbersIn out) n o)
+
 pub questions-refuse : QuestionsRefuseExactly
 questions-refuse b c h =
     let q = questions-by-context b c h in
     record {
       attribute = λ i. rw (q .starts i) (past-in c i);
-      map = λ out n o. rw (q .maps out) (λ e. because (roomOf b) c (h .0) out n o e .0, refuses (roomOf b) c (h .0) out n o);
+      map = map-refuses b c h;
+      mapBytes = bytes-refuse b c h;
       kept = λ out n o. rw (q .maps out) (λ e. because (roomOf b) c (h .0) out n o e .1);
       modules = λ a n o. rw (q .modules a) (done-refused _ n o);
     }

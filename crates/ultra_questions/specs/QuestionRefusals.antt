@@ -2,7 +2,7 @@
 -- document 01's table, and no other; where reading refuses the buffer, they pass that refusal on (under which condition reading gives
 -- it: specs/Refusing.antt of crate ultra_acceptance). Proved in proofs/QuestionRefusals.antt: `questions-refuse`, `refusals-pass-on`.
 -- Assumes nothing.
-use Prim.Native.Nat.{ℕ, _*_, _≤_, _<_}
+use Prim.Native.Nat.{ℕ, _*_, _/_, _≤_, _<_}
 use mathlib.Core.Path.{_≡_}
 use mathlib.Core.Logic.{_↔_, _⊎_}
 use mathlib.Core.List.{List}
@@ -15,7 +15,7 @@ use Rattle.ultra_format.specs.declared.Answer.{Answer}
 use Rattle.ultra_reading.specs.Reading.{usedLength}
 use Rattle.ultra_questions.specs.Parts.{noPart}
 use Rattle.ultra_questions.specs.AttributeQuestion.{unanswered, attributeStart, attributeAnswer}
-use Rattle.ultra_questions.specs.MapQuestion.{mapCopied}
+use Rattle.ultra_questions.specs.MapQuestion.{mapCopied, mapCopiedBytes}
 use Rattle.ultra_questions.specs.CommandLineQuestion.{commandLinePart}
 use Rattle.ultra_questions.specs.ModuleQuestion.{moduleHolding}
 
@@ -24,16 +24,19 @@ abbrev pub NoMap : Context → Type 0
 NoMap c = (i : ℕ) → i < count c → typeAt c i ≡ 3 → ⊥
 
 -- "a lent output is too short" for the map: "64-bit numbers, three to an entry"
-abbrev pub TooShort : Context → List ℕ → Type 0
-TooShort c out = (i : ℕ) × (es : List Entry) × (i < count c) × (bodyAt c i ≡ memoryMap es) × (length out < 3 * length es)
+abbrev pub TooShort : Context → ℕ → Type 0
+TooShort c capacity = (i : ℕ) × (es : List Entry) × (i < count c) × (bodyAt c i ≡ memoryMap es) × (capacity < 3 * length es)
 
 -- the questions' own refusals, and no others, of a buffer that holds the context
 pub record QuestionsRefuse (b : List ℕ) (c : Context) : Type 0 where
   -- "an index asked for at or past the count", "3 with the used length"
   pub attribute : (i n o : ℕ) → (attributeStart b i ≡ refused n o) ↔ ((n ≡ COUNT) × (o ≡ used c) × (count c ≤ i))
   -- "19 then 18, both with the used length"
-  pub map : (out : List ℕ) (n o : ℕ) → (mapCopied b out .0 ≡ refused n o) ↔ ((o ≡ used c) × (((n ≡ ABSENT) × NoMap c) ⊎ ((n ≡ ROOM) × TooShort c out)))
-  -- "the buffer and all lent memory are unchanged"
+  pub map : (out : List ℕ) (n o : ℕ) → (mapCopied b out .0 ≡ refused n o) ↔ ((o ≡ used c) × (((n ≡ ABSENT) × NoMap c) ⊎ ((n ≡ ROOM) × TooShort c (length out))))
+  -- "an output counts whole eights"
+  pub mapBytes : (out : List ℕ) (n o : ℕ)
+      → (mapCopiedBytes b out .0 ≡ refused n o) ↔ ((o ≡ used c) × (((n ≡ ABSENT) × NoMap c) ⊎ ((n ≡ ROOM) × TooShort c (length out / 8))))
+  -- "the buffer and all lent memory are unchanged"; of an output of bytes this is `CopiesBytes` (MapAsBytes)
   pub kept : (out : List ℕ) (n o : ℕ) → mapCopied b out .0 ≡ refused n o → mapCopied b out .1 ≡ out
   pub modules : (a n o : ℕ) → moduleHolding b a ≡ refused n o → ⊥
 
