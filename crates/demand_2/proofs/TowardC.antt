@@ -18,7 +18,7 @@ use Rattle.ultra_format.specs.Layouts.{bodyFields}
 use Rattle.ultra_format.specs.Members.{texts}
 use Rattle.ultra_format.specs.Rules.{TypeSuits}
 use Rattle.ultra_format.specs.Plain.{writtenSize}
-use Rattle.ultra_format.specs.Additions.{Addition, Addition.addMap, bodyGiven, formed, givenFault, platformOf, kernelOf, mapOf, moduleOf, framebufferOf, mapFormed, guidsFormed}
+use Rattle.ultra_format.specs.Additions.{Addition, Addition.addMap, Addition.addCommandLine, Addition.addFramebuffer, bodyGiven, formed, givenFault, platformOf, kernelOf, mapOf, moduleOf, framebufferOf, mapFormed, guidsFormed}
 use Rattle.ultra_format.specs.declared.Refusal.{Refusal}
 use Rattle.ultra_format.specs.declared.Answer.{Answer}
 use Rattle.ultra_format.specs.declared.Answer.the-variants.{Done, Refused}
@@ -29,7 +29,7 @@ use Rattle.ultra_building.proofs.Adding.{given-holds}
 use Rattle.ultra_building.proofs.GivenMembers.{guids-wide}
 use Rattle.demand_2.specs.Calls.{answerAnd, run, NumbersTyped, AdditionTyped}
 use Rattle.demand_2.specs.Calls.{Call.add}
-use Rattle.demand_2.specs.TowardC.{IsCall, TowardC}
+use Rattle.demand_2.specs.TowardC.{IsCall, IsCallOrRefused, TowardC}
 use Rattle.demand_2.proofs.Additions.{ascii-fits, path-fits}
 use Rattle.demand_2.proofs.Records.{giving, giving-body, giving-typed, giving-formed}
 
@@ -46,18 +46,18 @@ module _ (b : List ℕ) (f : Bool) (x : Body) where
   -- an addition that has these members is the call
   is-call : (g : Addition) → AdditionTyped g → bodyGiven g ≡ x → f ≡ formed g → IsCall b f x g
   unfolding run
-  is-call g t e h = inr (t, e, λ i. answerAnd (addedMembers b (h i) (sym e i)))
+  is-call g t e h = (t, e, λ i. answerAnd (addedMembers b (h i) (sym e i)))
 
   -- members that fit their fields where they have no fault
-  of-fits : TypeSuits x → typeOf x < 7 → ((f ≡ true) × BodyHolds (writtenSize x) x → Fits (bodyFields (writtenSize x) x)) → IsCall b f x (giving x)
+  of-fits : TypeSuits x → typeOf x < 7 → ((f ≡ true) × BodyHolds (writtenSize x) x → Fits (bodyFields (writtenSize x) x)) → IsCallOrRefused b f x (giving x)
   of-fits s t fits = go decided
     where
-      go : ((r : Refusal) × (addedMembers b f x ≡ (Refused r, b))) ⊎ (givenFault f x ≡ 0) → IsCall b f x (giving x)
+      go : ((r : Refusal) × (addedMembers b f x ≡ (Refused r, b))) ⊎ (givenFault f x ≡ 0) → IsCallOrRefused b f x (giving x)
       go (inl r) = inl r
       go (inr z) =
           let h = given-holds f x z in
           let k = fits h in
-          is-call (giving x) (giving-typed (writtenSize x) x k) (giving-body (writtenSize x) x s t k) (h .0 ∙ sym (giving-formed x))
+          inr (is-call (giving x) (giving-typed (writtenSize x) x k) (giving-body (writtenSize x) x s t k) (h .0 ∙ sym (giving-formed x)))
 
 numbers-typed : (b : List ℕ) → Bytes b → (o n : ℕ) → NumbersTyped (numbersAt b o n)
 unfolding numbersAt
@@ -71,20 +71,21 @@ whole b e =
     let n : length (numbersIn b) ≡ length b / 8 = length-numbers b 0 (length b / 8) in
     eq-eqb (length (numbersIn b) % 3) 0 (omega arith)
 
-map-call : (b entries : List ℕ) → Bytes entries → IsCall b (mapFormed entries) (mapOf entries) (addMap (numbersIn entries))
+map-call : (b entries : List ℕ) → Bytes entries → IsCallOrRefused b (mapFormed entries) (mapOf entries) (addMap (numbersIn entries))
 unfolding bodyGiven
 map-call b entries y = go (decided b (mapFormed entries) (mapOf entries))
   where
     go : ((r : Refusal) × (addedMembers b (mapFormed entries) (mapOf entries) ≡ (Refused r, b))) ⊎ (givenFault (mapFormed entries) (mapOf entries) ≡ 0)
-        → IsCall b (mapFormed entries) (mapOf entries) (addMap (numbersIn entries))
+        → IsCallOrRefused b (mapFormed entries) (mapOf entries) (addMap (numbersIn entries))
     go (inl r) = inl r
     go (inr z) =
         let h = given-holds (mapFormed entries) (mapOf entries) z in
-        is-call b (mapFormed entries) (mapOf entries) (addMap (numbersIn entries)) (numbers-typed entries y 0 (length entries / 8)) refl
-        (h .0 ∙ sym (whole entries (h .0)))
+        inr
+        (is-call b (mapFormed entries) (mapOf entries) (addMap (numbersIn entries)) (numbers-typed entries y 0 (length entries / 8)) refl
+        (h .0 ∙ sym (whole entries (h .0))))
 
 pub toward-c : TowardC
-unfolding writtenSize texts Fits giving
+unfolding writtenSize texts Fits giving bodyGiven
 toward-c =
     record {
       platforms =
@@ -101,9 +102,10 @@ toward-c =
           λ b kind name address size k y a s.
           of-fits b true (moduleOf kind name address size) tt (omega arith) (λ m.
           (tt, (k, (ascii-fits 64 name y (m .1 .textsHold), (a, (s, (tt, tt)))))));
-      commandLines = λ b text y. of-fits b true (commandLine text) tt (omega arith) (λ m. (ascii-fits _ text y (m .1 .textsHold), tt));
+      commandLines = λ b text y. is-call b true (commandLine text) (addCommandLine text) y refl refl;
       framebuffers =
           λ b width height pitch bpp format address w h p d f a.
-          of-fits b true (framebufferOf width height pitch bpp format address) tt (omega arith) (λ m.
-          (w, (h, (p, (d, (f, (a, (tt, tt))))))));
+          is-call b true (framebufferOf width height pitch bpp format address)
+          (addFramebuffer (record { width = width; height = height; pitch = pitch; bpp = bpp; format = format; address = address }))
+          (record { width = w; height = h; pitch = p; bpp = d; format = f; address = a }) refl refl;
     }

@@ -1,6 +1,8 @@
 -- Every call that the library offers on a buffer, as data: what it answers and what it leaves in the buffer, by the definitions that the
--- contracts cite. Adds of members given one by one, as from C, are among them: see TowardC. (Copying the map out as bytes, and the other
--- calls toward C, are calls of these with their answer as one number; other `pub` functions are for the library's own crates.)
+-- contracts cite. Adds of members given one by one, as from C, have no case of their own: one that is accepted is an `add` here, one that
+-- is refused leaves the buffer (TowardC). Copying the map out into bytes is `copyMap` of the numbers that the bytes are
+-- (`mapCopiedBytes`); the other calls toward C are calls of these with their answer as one number. (Other `pub` functions are for the
+-- library's own crates.)
 -- Assumes nothing.
 use Prim.Native.Nat.{ℕ, _<_, _^_}
 use mathlib.Core.Path.{_≡_}
