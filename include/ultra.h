@@ -73,7 +73,7 @@ extern "C" {
 #define ULTRA_SPLIT   11 /* a module or a type from 7 up that occurred earlier, with another type just before it */
 #define ULTRA_FORM    12 /* a size that the type cannot have; in adding, a length that a map or a GUID cannot have */
 #define ULTRA_VALUE   13 /* a number that its member cannot have */
-#define ULTRA_TEXT    14 /* a text that is not closed in its field, has a byte that it cannot have, or is a path without '/' */
+#define ULTRA_TEXT    14 /* a text that is not closed in its field, has a byte that it cannot have, or is a path that does not begin with '/' */
 #define ULTRA_RANGE   15 /* an address and its size together pass 2^64; a sum of just 2^64 is allowed */
 #define ULTRA_ORDER   16 /* a map entry's address is below the end (address + size) of the entry before it */
 #define ULTRA_FULL    17 /* adding to ULTRA_COUNT_MAX attributes */
@@ -217,6 +217,8 @@ uint64_t ultra_read(const uint8_t *buf, size_t buf_len);
 /*
  * Steps to the attribute at a cursor, the first of which is ultra_first_cursor. It judges that attribute's header alone, and
  * not whether the offset belongs to the index.
+ * The attribute's size need not suit its type, and its members are not judged: call ultra_read first, or look at the size before each
+ * member.
  * Success: the attribute starts at the cursor's offset, and the value is where the next one starts, never 0: see
  * ultra_next_cursor. At the end, where the index is at or past the count, the whole answer is 0; the offset is then not looked at.
  * Refusals: ULTRA_SHORT, ULTRA_VERSION, ULTRA_COUNT, ULTRA_MISSING with offset 0; then, unless it is the end, with the cursor's
@@ -242,7 +244,7 @@ uint64_t ultra_begin(uint8_t *buf, size_t buf_len);
 /*
  * Adding: what the six calls have in common.
  *
- * Each reads the buffer by all rules but the least count, and adds one attribute behind the last. A first platform, then a
+ * Each reads the buffer by all rules but the least count, and adds one attribute behind the last. First a platform, then a
  * kernel, then the others in any order; modules stand together.
  * Success: the new used length. The attribute is written at the old used length, its reserved and unused bytes as zero, and the
  * head's count is raised by one; no other byte changes.

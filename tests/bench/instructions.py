@@ -61,7 +61,7 @@ def main():
             counted = pool.submit(count, bench, folder, call, source, who)
             tables.setdefault(title, {}).setdefault((described, goal), []).append(counted)
         for title, rows in tables.items():
-            print(f"\n{title}: instructions for a call\n")
+            print(f"\n{title}: instructions\n")
             for place, ((described, goal), counted) in enumerate(rows.items()):
                 counts = [one.result() for one in counted]
                 if place == 0:

@@ -497,12 +497,12 @@ static void nulls(void)
 static void extremes(void)
 {
     const uint8_t *buf = region_copy(&buffer, whole, USED, BACK, READ_ONLY);
-    static const uint32_t crooked[] = {0, 1, 4, 7, 9, 12, 15, USED - 1, USED - 7, UINT32_MAX, UINT32_MAX - 1};
+    static const uint32_t uneven[] = {0, 1, 4, 7, 9, 12, 15, USED - 1, USED - 7, UINT32_MAX, UINT32_MAX - 1};
     static const uint32_t outside[] = {USED, USED + 8, 65528, 65536, 0x7FFFFFF8, 0x80000000, UINT32_MAX - 15, UINT32_MAX - 7};
 
     checks_name("cursors and indices at the ends of their widths");
-    for (size_t at = 0; at < sizeof crooked / sizeof crooked[0]; at++)
-        CHECK_ANSWER(ultra_step(buf, USED, 0, crooked[at]), ULTRA_HEADER, crooked[at]);
+    for (size_t at = 0; at < sizeof uneven / sizeof uneven[0]; at++)
+        CHECK_ANSWER(ultra_step(buf, USED, 0, uneven[at]), ULTRA_HEADER, uneven[at]);
     for (size_t at = 0; at < sizeof outside / sizeof outside[0]; at++)
         CHECK_ANSWER(ultra_step(buf, USED, 6, outside[at]), ULTRA_HEADER, outside[at]);
     CHECK(ultra_step(buf, USED, 7, UINT32_MAX) == 0);

@@ -1,5 +1,5 @@
--- Statement: what crosses on document 01's listing (its 480 bytes, written by hand), on the head H alone, and at the boundaries of the lengths
--- that are given. Proved in proofs/Examples.antt: `examples`.
+-- Statement: what crosses on document 01's listing (its 480 bytes, written by hand), on the head H alone, and at the boundaries of the
+-- lengths that are given. Proved in proofs/Examples.antt: `examples`.
 -- Assumes nothing.
 use Prim.Native.Nat.{ℕ}
 use mathlib.Core.Path.{_≡_}

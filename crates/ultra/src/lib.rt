@@ -1,4 +1,5 @@
-// The calls toward C: numbers and byte slices in, one u64 back. Each crosses to a call of the crates below and adds nothing to it.
+// The calls toward C: numbers and byte slices in, one u64 back. Each is a call of the crates that this one depends on, its answer made one
+// number.
 mod answers;
 mod building;
 mod questions;

@@ -50,7 +50,8 @@ pub data AdditionBreaks (room : ℕ) (c : Context) (formed : Bool) (given : Body
   -- `mapFormed`, `guidsFormed`). "A platform record with an absent member is refused as 12."
   unformed : formed ≡ false → AdditionBreaks room c formed given FORM
   incomplete : (p : Platform) → given ≡ platform p → Incomplete p → AdditionBreaks room c formed given FORM
-  -- "the member rules above": values, texts, ranges, map order
+  -- "the member rules above": values, texts, ranges, map order. "A text given is refused as 14 if it holds a zero byte or leaves no place
+  -- for its closing zero in a fixed field": no byte of a text is zero, and it is shorter than its field (Members, `texts`).
   value : values given ≡ false → AdditionBreaks room c formed given VALUE
   text : texts (writtenSize given) given ≡ false → AdditionBreaks room c formed given TEXT
   range : ranges given ≡ false → AdditionBreaks room c formed given RANGE

@@ -1,6 +1,6 @@
-// Adds of members given one by one, as numbers and byte slices: a text is its bytes as they are. The calls toward C and the adds of records
-// that have arrays are made of these. Each judges what it is given, has it admitted as one more attribute, and lends the part of the buffer from the
-// used length on to the body writer of its type.
+// Adds of members given one by one, as numbers and byte slices: a text is its bytes as they are. The calls toward C and the adds of
+// records that have arrays are made of these. Each judges what it is given, has it admitted as one more attribute, and lends the part of
+// the buffer from the used length on to the body writer of its type.
 ghost use mathlib.Core.Path.{_≡_};
 ghost use mathlib.Core.Bool.{true};
 ghost use Rattle.ultra_format.specs.Additions.{platformOf, kernelOf, mapOf, moduleOf, mapFormed, guidsFormed};

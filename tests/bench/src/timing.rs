@@ -11,7 +11,7 @@ const ROUNDS: usize = 21;
 /// A round lasts at least this long.
 const ROUND: Duration = Duration::from_millis(20);
 
-/// Nanoseconds for a call.
+/// Nanoseconds for a call, or for a whole building.
 #[derive(Clone, Copy)]
 pub struct Time {
     pub median: f64,
@@ -91,7 +91,7 @@ pub fn report(inputs: &[Input]) {
     let mut misses = 0;
     for call in Call::ALL {
         println!(
-            "\n{}: ns for a call, median (least) of {ROUNDS} rounds\n",
+            "\n{}: ns, median (least) of {ROUNDS} rounds\n",
             call.title()
         );
         header(call);

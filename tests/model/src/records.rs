@@ -174,7 +174,7 @@ impl<'a> Map<'a> {
         Self::of_entries(&bytes[HEADER_SIZE..])
     }
 
-    /// "8 + 24n, n from 0": a crooked rest is not rounded away.
+    /// "8 + 24n, n from 0": bytes left over are not rounded away.
     pub fn of_entries(entries: &'a [u8]) -> Result<Self, Number> {
         ensure(entries.len().is_multiple_of(ENTRY_SIZE), Form)?;
         Ok(Map { entries })

@@ -308,7 +308,7 @@ fn command_lines_as_written() {
 }
 
 #[test]
-fn seams_of_the_map() {
+fn ranges_that_meet() {
     assert_eq!(
         calls::read(&with(&[map(&[0, 4096, 1, 4096, 1, 1])])),
         THIRD + 56
@@ -319,8 +319,8 @@ fn seams_of_the_map() {
     );
     let mut buf = with(&[]);
     buf.extend([0; 56]);
-    let crooked = numbers(&[0, 4097, 1, 4096, 1, 1]);
-    assert_eq!(calls::add_map(&mut buf, &crooked), refused(Order, THIRD));
+    let uneven = numbers(&[0, 4097, 1, 4096, 1, 1]);
+    assert_eq!(calls::add_map(&mut buf, &uneven), refused(Order, THIRD));
     let straight = numbers(&[0, 4096, 1, 4096, 1, 1]);
     assert_eq!(calls::add_map(&mut buf, &straight), THIRD + 56);
 }
@@ -361,7 +361,7 @@ fn types_stand_together() {
         calls::read(&with(&[module(0, 1), other(8), module(0, 1)])),
         refused(Split, THIRD + 104)
     );
-    // 10 before 12: a second map of a crooked size.
+    // 10 before 12: a second map of a size outside the table.
     assert_eq!(
         calls::read(&with(&[map(&[]), attribute(3, 16, &[])])),
         refused(Repeat, THIRD + 8)
@@ -375,10 +375,10 @@ fn types_stand_together() {
 }
 
 #[test]
-fn a_crooked_map_does_not_pass() {
+fn a_map_of_another_size_does_not_pass() {
     for size in [16, 24, 40, 48] {
-        let crooked = attribute(3, size, &[(8, &vec![1; size as usize - 8])]);
-        assert_eq!(calls::read(&with(&[crooked])), refused(Form, THIRD));
+        let uneven = attribute(3, size, &[(8, &vec![1; size as usize - 8])]);
+        assert_eq!(calls::read(&with(&[uneven])), refused(Form, THIRD));
     }
     assert_eq!(calls::read(&with(&[map(&[])])), THIRD + 8);
     let mut buf = with(&[]);

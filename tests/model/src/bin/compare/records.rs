@@ -298,7 +298,7 @@ fn entries_bytes(entries: &[Entry]) -> Vec<u8> {
         .collect()
 }
 
-/// At most `most` entries in order: half of the seams without a gap, the last one sometimes
+/// At most `most` entries in order: half of them without a gap, the last one sometimes
 /// up to 2^64. Steps of up to `width` bits: with 14, any number of entries has its place.
 fn entries(rng: &mut Rng, most: usize, width: usize) -> Vec<Entry> {
     let mut entries: Vec<Entry> = Vec::new();
@@ -353,7 +353,7 @@ fn spoil_entries(rng: &mut Rng, entries: &mut Vec<Entry>) {
             entries.push([after, rng.pick(&[0, 1]), 1]);
         }
         _ => {
-            // A seam one byte or one page too long, seen from either side.
+            // A range one byte or one page too long, seen from either side.
             let excess = rng.pick(&[1, PAGE]);
             let [address, size, _] = entries[at];
             let end = address.saturating_add(size);
@@ -375,17 +375,17 @@ fn map(rng: &mut Rng, spoilt: usize) -> Given {
     };
     let width = rng.pick(&[14, 50, 63, 64]);
     let mut entries = entries(rng, most, width);
-    let mut crooked = false;
+    let mut uneven = false;
     // Faults in several entries show the order in which they are tried.
     let more = if spoilt > 0 { rng.below(3) } else { 0 };
     for _ in 0..spoilt + more {
         match rng.chance(15) {
-            true => crooked = true,
+            true => uneven = true,
             false => spoil_entries(rng, &mut entries),
         }
     }
     let mut bytes = entries_bytes(&entries);
-    if crooked {
+    if uneven {
         let by = rng.pick(&[1, 4, 7, 8, 12, 16, 23]);
         bytes.resize(bytes.len() + by, 1);
     }
@@ -540,7 +540,7 @@ impl Record {
     }
 
     /// The attribute, by the paper's table, with all silent bytes zero. A text too long is
-    /// cut at the end of its field, and so has no closing zero; a crooked map is filled up
+    /// cut at the end of its field, and so has no closing zero; a map of another length is filled up
     /// to a multiple of 8.
     pub fn attribute(&self) -> Vec<u8> {
         let mut at = Vec::new();
