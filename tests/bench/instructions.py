@@ -72,7 +72,7 @@ def main():
 
 def row(described, goal, counts):
     ratios = [counts[0] / other for other in counts[1:]]
-    verdict = "none" if goal == "extra" else "PASS" if ratios[0] <= 1 else "MISS"
+    verdict = "PASS" if ratios[0] <= 1 else "MISS"
     cells = [described, *(f"{one:,.0f}" for one in counts), f"{ratios[0]:.2f}", verdict, *(f"{one:.2f}" for one in ratios[1:])]
     return "| " + " | ".join(cells) + " |"
 

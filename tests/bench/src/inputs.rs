@@ -53,7 +53,7 @@ impl Input {
         self.name == "usual"
     }
 
-    /// Besides the three that goals are set on.
+    /// The third input in another order of its types: for reading alone.
     pub fn is_extra(&self) -> bool {
         self.name.starts_with("many-")
     }
