@@ -1,0 +1,34 @@
+-- `lines::absent_line` meets its contract.
+-- Assumes nothing.
+use mathlib.Core.Path.{sym, _∙_}
+use Rattle.key_value_text.specs.Lines.{Value.absent, valueBytes}
+use Rattle.key_value_text.proofs.Puts.{puts-one, line-put}
+use borrow.Author.Needs.{needs}
+use denote.Ref.{now}
+use Rattle.key_value_text.proofs.lines.absent_line.Statement.{statement}
+use Rattle.key_value_text.proofs.lines.absent_line.Tie as tie
+
+key-requires : tie.Need-key-requires
+key-requires c κs = search needs
+
+put-requires : tie.Need-put-requires
+put-requires c κs = search needs
+
+put-requires-2 : tie.Need-put-requires-2
+put-requires-2 c κs = search needs
+
+same-length : tie.Need-same-length
+same-length c = search needs
+
+returns : tie.Need-returns
+unfolding valueBytes
+returns c =
+    let p = c .before .before in
+    let v = p .before .before .before .before in
+    let k = v .before .before .before .before in
+    let a = k .before .before .before .before .args in
+    line-put _ _ _ _ (now (a .key)) absent (k .key .ensures) (v .put .ensures ∙ sym (puts-one _ 45)) (p .put2 .ensures)
+
+pub absent-line-spec : {M : Type 1} → statement M
+absent-line-spec =
+    tie.close (tie.spec key-requires put-requires put-requires-2 same-length returns)

@@ -1,0 +1,49 @@
+-- `lines::text_line` meets its contract: as many bytes as the text has are the text.
+-- Assumes nothing.
+use Prim.Native.Nat.{ℕ}
+use mathlib.Core.Path.{_≡_, ap, _∙_}
+use mathlib.Core.List.{List}
+use Rattle.byte_layout.specs.Stored.{bytesAt, textAt}
+use Rattle.byte_layout.proofs.Copies.{text-bytes}
+use Rattle.key_value_text.specs.Lines.{Value.text, valueBytes}
+use Rattle.key_value_text.specs.Output.{puts}
+use Rattle.key_value_text.specs.Spelling.{each, spelled}
+use Rattle.key_value_text.proofs.Puts.{line-put}
+use borrow.Author.Needs.{needs}
+use denote.Ref.{now}
+use Rattle.key_value_text.proofs.lines.text_line.Statement.{statement}
+use Rattle.key_value_text.proofs.lines.text_line.Tie as tie
+
+key-requires : tie.Need-key-requires
+key-requires c κs = search needs
+
+text-length-requires : tie.Need-text-length-requires
+text-length-requires c κs = search needs
+
+escaped-requires : tie.Need-escaped-requires
+escaped-requires c κs = search needs
+
+put-requires : tie.Need-put-requires
+put-requires c κs = search needs
+
+same-length : tie.Need-same-length
+same-length c = search needs
+
+returns : tie.Need-returns
+unfolding valueBytes
+returns c =
+    let p = c .before .before in
+    let v = p .before .before .before .before in
+    let n = v .before .before in
+    let k = n .before .before .before in
+    let a = k .before .before .before .before .before .args in
+    let t : bytesAt (now (a .bytes)) (a .start) (n .text-length .result) ≡ textAt (now (a .bytes)) (a .start) (a .width) =
+    ap (bytesAt (now (a .bytes)) (a .start)) (n .text-length .ensures .0) ∙ text-bytes (now (a .bytes)) (a .start) (a .width) in
+    line-put _ _ _ _ (now (a .key)) (text (textAt (now (a .bytes)) (a .start) (a .width))) (k .key .ensures)
+    (v .escaped .ensures ∙ ap (λ (l : List ℕ). puts (k .key .last .0, k .key .result) (each spelled l)) t)
+    (p .put .ensures)
+
+pub text-line-spec : {M : Type 1} → statement M
+text-line-spec =
+    tie.close
+    (tie.spec key-requires text-length-requires escaped-requires put-requires same-length returns)
