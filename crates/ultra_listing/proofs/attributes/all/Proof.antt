@@ -1,0 +1,131 @@
+-- `attributes::all` meets its contract. The invariant: `at` is where attribute `i` starts, and the attributes that are left, put from here
+-- on, lead to what all of them lead to.
+-- Assumes nothing.
+use Prim.Native.Nat.{ℕ, _+_, _-_, _≤_}
+use mathlib.Core.Path.{_≡_, refl, sym, ap, _∙_}
+use mathlib.Core.List.{List}
+use native.Mathlib.Nat.{sub-zero}
+use native.Mathlib.Omega.{arith}
+use lib.ListN.{length}
+use denote.Ref.{now}
+use Rattle.words.specs.Words.{u32At}
+use Rattle.key_value_text.specs.Lines.{Line, linesBytes}
+use Rattle.key_value_text.specs.Output.{puts}
+use Rattle.ultra_format.specs.Decoding.{start, storedType, storedSize, attributesFrom}
+use Rattle.ultra_reading.proofs.WalkLaws.{start-next}
+use Rattle.ultra_questions.proofs.Located.{Inside, head-inside, inside}
+use Rattle.ultra_listing.proofs.LineLaws.{lines-at, suits-at, attribute-next, attribute-end}
+use Rattle.ultra_listing.specs.Listing.{attributesLines}
+use borrow.Author.Needs.{needs}
+use Rattle.ultra_listing.proofs.attributes.all.Statement.{statement}
+use Rattle.ultra_listing.proofs.attributes.all.Tie as tie
+
+abbrev Inv-loop : tie.InvT-loop
+Inv-loop out₀ to buf count end₀ at₀ i₀ out end at i =
+    (at ≡ start buf i)
+    × (i ≤ count)
+    × (length out ≡ length out₀)
+    × (puts (out, end) (linesBytes (attributesLines (attributesFrom buf i (count - i)))) ≡ puts (out₀, to) (linesBytes (attributesLines (attributesFrom buf 0 count))))
+
+abbrev μ-loop : tie.MeasureT-loop
+μ-loop out₀ to buf count end₀ at₀ i₀ out end at i = count - i
+
+load-u32-requires : tie.Need-load-u32-requires Inv-loop μ-loop
+load-u32-requires c κs = omega (arith, head-inside (now (c .before .before .args .buf)) (c .before .before .pre))
+
+loop-holds : tie.Need-loop-holds Inv-loop μ-loop
+unfolding start
+loop-holds c = (refl, search needs, refl, rw sub-zero refl)
+
+-- the attribute that the loop has come to is within its bounds
+here : (c : tie.In-loop Inv-loop μ-loop) → Inside (now (c .before .before .before .before .before .args .buf)) (c .before .loop .i)
+here c =
+    let s = c .before .before .before .before .before in
+    inside (now (s .args .buf)) (s .pre) (c .before .loop .i) (omega (arith, c .before .before .load-u32 .ensures))
+
+load-u32-requires-2 : tie.Need-load-u32-requires-2 Inv-loop μ-loop
+load-u32-requires-2 c κs = omega (arith, here c)
+
+add-load-u32 : tie.Need-add-load-u32 Inv-loop μ-loop
+add-load-u32 c = omega (arith, here (c .before))
+
+load-u32-requires-3 : tie.Need-load-u32-requires-3 Inv-loop μ-loop
+load-u32-requires-3 c κs = omega (arith, here (c .before))
+
+-- its type and its size are loaded
+kind : (c : tie.After-load-u322 Inv-loop μ-loop) → c .load-u322 .result ≡ storedType (now (c .before .before .before .before .before .before .args .buf)) (c .before .before .loop .i)
+kind c = c .load-u322 .ensures ∙ ap (u32At (now (c .before .before .before .before .before .before .args .buf))) (c .before .before .loop .inv .0)
+
+size : (c : tie.After-load-u323 Inv-loop μ-loop) → c .load-u323 .result ≡ storedSize (now (c .before .before .before .before .before .before .before .args .buf)) (c .before .before .before .loop .i)
+size c =
+    let l = c .before .before .before in
+    c .load-u323 .ensures ∙ ap (λ (o : ℕ). u32At (now (l .before .before .before .before .args .buf)) (o + 4)) (l .loop .inv .0)
+
+attribute-requires : tie.Need-attribute-requires Inv-loop μ-loop
+attribute-requires c κs =
+    let z = c .before in
+    let l = z .before .before .before in
+    let b = now (l .before .before .before .before .args .buf) in
+    let h = here (z .before .before) in (
+      (omega (arith, h, size z, l .loop .inv .0), omega (arith, h, size z)),
+      suits-at b (l .loop .i) (l .loop .at) (z .load-u323 .result) (z .before .load-u322 .result) (l .loop .inv .0) (size z) (kind (z .before)) (h .suits),
+    )
+
+cast-at : tie.Need-cast-at Inv-loop μ-loop
+cast-at c = omega (arith, here (c .before .before .before .before .before .before), size (c .before .before .before .before))
+
+add-at : tie.Need-add-at Inv-loop μ-loop
+add-at c = omega (arith, here (c .before .before .before .before .before .before), size (c .before .before .before .before))
+
+add-i : tie.Need-add-i Inv-loop μ-loop
+add-i c = search needs
+
+loop-less : tie.Need-loop-less Inv-loop μ-loop
+loop-less c = search needs
+
+loop-again : tie.Need-loop-again Inv-loop μ-loop
+loop-again c =
+    let p = c .before .before in
+    let z = p .before .before in
+    let l = z .before .before .before in
+    let b = now (l .before .before .before .before .args .buf) in
+    let e = lines-at b (l .loop .i) (l .loop .at) (z .load-u323 .result) (z .before .load-u322 .result) (l .loop .inv .0) (size z) (kind (z .before)) in (
+      omega (arith, size z, start-next b (l .loop .i)),
+      omega arith,
+      p .attribute .kept .0 ∙ l .loop .inv .2,
+      attribute-next b (l .before .load-u32 .result) (l .loop .i) _ _ (z .before .before .loop-test .taken)
+          (p .attribute .ensures ∙ ap (λ (ls : List Line). puts (l .loop .out, l .loop .end) (linesBytes ls)) e)
+          ∙ l .loop .inv .3,
+    )
+
+same-length : tie.Need-same-length Inv-loop μ-loop
+same-length c = c .before .loop .inv .2
+
+returns : tie.Need-returns Inv-loop μ-loop
+returns c =
+    let l = c .before in
+    let a = l .before .before .before .before .args in
+    let b = now (a .buf) in
+    sym (attribute-end b (l .before .load-u32 .result) (l .loop .i) _ (c .loop-test .left))
+    ∙ l .loop .inv .3
+    ∙ ap (λ (n : ℕ). puts (now (a .out), a .to) (linesBytes (attributesLines (attributesFrom b 0 n)))) (l .before .load-u32 .ensures)
+
+pub all-spec : {M : Type 1} → statement M
+all-spec =
+    tie.close
+    (tie.spec
+    Inv-loop
+    μ-loop
+    load-u32-requires
+    loop-holds
+    load-u32-requires-2
+    add-load-u32
+    load-u32-requires-3
+    attribute-requires
+    cast-at
+    add-at
+    add-i
+    loop-less
+    loop-again
+    same-length
+    returns)

@@ -1,0 +1,38 @@
+// A whole listing: of an accepted context, and of a refused one.
+ghost use mathlib.Core.Path.{_≡_};
+ghost use Rattle.key_value_text.specs.Output.{puts};
+ghost use Rattle.key_value_text.specs.Lines.{linesBytes};
+ghost use Rattle.ultra_format.specs.Contexts.{used as used·of};
+ghost use Rattle.ultra_format.specs.Decoding.{contextOf};
+ghost use Rattle.ultra_questions.specs.Passing.{Accepts};
+ghost use Rattle.ultra_listing.specs.Listing.{contextLines, refusedLines};
+use crate::numbers::one;
+use crate::numbers::two;
+use ultra_format::Refusal;
+
+pub fn refused(out: &mut [u8], refusal: Refusal) -> u32
+    ensures { λ r. ⌜ (now (out .exit), r) ≡ puts (now (out .entry), 0) (linesBytes (refusedLines refusal)) ⌝ }
+{
+    two(
+        out,
+        0,
+        b"refused",
+        b',',
+        refusal.number as u64,
+        refusal.offset as u64,
+    )
+}
+
+// `used` is the used length.
+pub fn accepted(out: &mut [u8], buf: &[u8], used: u32) -> u32
+    requires { ⌜ Accepts (now buf) ⌝ }
+    requires { ⌜ used ≡ used·of (contextOf (now buf)) ⌝ }
+    ensures { λ r. ⌜ (now (out .exit), r) ≡ puts (now (out .entry), 0) (linesBytes (contextLines (contextOf (now (buf .entry))))) ⌝ }
+{
+    let major = buf[0] as u64;
+    let minor = buf[1] as u64;
+    let version = two(out, 0, b"version", b'.', major, minor);
+    let count = one(out, version, b"attributes", words::load_u32(buf, 4) as u64);
+    let end = crate::attributes::all(out, count, buf);
+    one(out, end, b"used", used as u64)
+}
