@@ -4,13 +4,16 @@
 //! [`calls`] has the thirteen calls in the shape they have toward C: lent bytes
 //! and numbers in, a single `u64` out. The modules behind it go by subject:
 //! the [`format`] and its [`records`], [`reading`], [`stepping`],
-//! [`questions`] and [`building`].
+//! [`questions`] and [`building`]. [`mod@listing`] is what the listing program
+//! prints. [`generator`] makes the inputs of the drivers.
 
 #![forbid(unsafe_code)]
 
 pub mod building;
 pub mod calls;
 pub mod format;
+pub mod generator;
+pub mod listing;
 pub mod questions;
 pub mod reading;
 pub mod records;

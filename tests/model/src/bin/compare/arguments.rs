@@ -1,9 +1,10 @@
 //! Arguments that suit a buffer: about its offsets, counts, ranges and room.
 
+use ultra_model::generator::contexts::ROOM;
+use ultra_model::generator::records::{lend, Record};
+use ultra_model::generator::rng::Rng;
+
 use crate::call::Call;
-use crate::contexts::ROOM;
-use crate::records::{lend, Record};
-use crate::rng::Rng;
 
 struct Header {
     start: usize,
@@ -81,7 +82,7 @@ impl<'a> View<'a> {
         }
         let count = self.count as u32;
         let (room, end) = (self.room as u32, self.end as u32);
-        let any = rng.next() as u32;
+        let any = rng.word() as u32;
         let index = rng.pick(&[
             0,
             1,
@@ -228,7 +229,7 @@ impl<'a> View<'a> {
                 Record::new(rng, kind, spoilt)
             }
         };
-        record.call().expect("types 1 to 6 are added")
+        Call::adding(record).expect("types 1 to 6 are added")
     }
 
     fn fitted(&self, rng: &mut Rng, left: usize) -> bool {
@@ -261,6 +262,6 @@ impl<'a> View<'a> {
                 _ => given.bytes.extend([1; 24]),
             }
         }
-        record.call().expect("lines and maps are added")
+        Call::adding(record).expect("lines and maps are added")
     }
 }

@@ -1,9 +1,10 @@
 //! Both sides on one buffer: every call is made on the library and on the model, and the
 //! answers and all lent bytes are compared.
 
+use ultra_model::generator::given::{hex, Given, Start};
 use ultra_model::{calls, reading};
 
-use crate::call::{hex, Call, Given, NAMES};
+use crate::call::{Call, NAMES};
 use crate::ffi;
 use crate::lent::Lent;
 use crate::tally::Tally;
@@ -11,17 +12,6 @@ use crate::tally::Tally;
 /// How the two sides differ, in words.
 #[derive(Debug)]
 pub struct Difference(pub String);
-
-/// What an input starts with.
-#[derive(Clone, Default)]
-pub struct Start {
-    pub buffer: Given,
-    /// What would come behind the lent bytes.
-    pub beyond: Vec<u8>,
-    /// The used length that reading has to answer, where the bytes were laid out as a
-    /// context.
-    pub expected: Option<usize>,
-}
 
 pub struct Bench {
     start: Start,

@@ -1,31 +1,7 @@
 //! The thirteen calls with their arguments, and the numbers each of them can give.
 
-use std::fmt;
-
-use crate::records::{Framebuffer, Kernel, Module, Platform};
-
-/// Bytes to be lent: at an address of this remainder modulo 16; if empty and `null`, with a
-/// null pointer.
-#[derive(Clone, Default)]
-pub struct Given {
-    pub bytes: Vec<u8>,
-    pub shift: usize,
-    pub null: bool,
-}
-
-impl fmt::Debug for Given {
-    fn fmt(&self, f: &mut fmt::Formatter) -> fmt::Result {
-        let length = self.bytes.len();
-        match (length, self.null) {
-            (0, true) => write!(f, "[null]"),
-            _ => write!(f, "[{length} at +{}: {}]", self.shift, hex(&self.bytes)),
-        }
-    }
-}
-
-pub fn hex(bytes: &[u8]) -> String {
-    bytes.iter().map(|byte| format!("{byte:02x}")).collect()
-}
+use ultra_model::generator::given::Given;
+use ultra_model::generator::records::{Framebuffer, Kernel, Module, Platform, Record};
 
 #[derive(Clone, Debug)]
 pub enum Call {
@@ -63,6 +39,19 @@ pub const NAMES: [&str; CALLS] = [
 ];
 
 impl Call {
+    /// The call that adds the record; none adds a type from 7 up.
+    pub fn adding(record: Record) -> Option<Call> {
+        Some(match record {
+            Record::Platform(record) => Call::AddPlatform(record),
+            Record::Kernel(record) => Call::AddKernel(record),
+            Record::Map(entries) => Call::AddMap { entries },
+            Record::Module(record) => Call::AddModule(record),
+            Record::Line(text) => Call::AddCommandLine { text },
+            Record::Framebuffer(record) => Call::AddFramebuffer(record),
+            Record::Other(..) => return None,
+        })
+    }
+
     /// The place of the call in [`NAMES`].
     pub fn id(&self) -> usize {
         match self {

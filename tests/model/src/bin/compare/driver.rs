@@ -8,12 +8,14 @@ use std::sync::Mutex;
 use std::thread;
 use std::time::{Duration, Instant};
 
+use ultra_model::generator::given::hex;
+use ultra_model::generator::{number, DEFAULT_SEED};
+
 use crate::bench::{Bench, Difference};
 use crate::inputs;
 use crate::tally::Tally;
 
 const DEFAULT_INPUTS: u64 = 1_000_000;
-const DEFAULT_SEED: u64 = 0x554C_5442;
 const DEFAULT_THREADS: u64 = 2;
 /// An input that takes longer than this is taken to have no end.
 const PATIENCE: Duration = Duration::from_secs(60);
@@ -43,13 +45,6 @@ enum Task {
     },
     /// What a run's own child process does.
     Part(Run),
-}
-
-fn number(text: &str) -> Option<u64> {
-    match text.strip_prefix("0x") {
-        Some(digits) => u64::from_str_radix(digits, 16).ok(),
-        None => text.replace('_', "").parse().ok(),
-    }
 }
 
 fn parse(arguments: &[String]) -> Option<Task> {
@@ -259,10 +254,7 @@ fn one(seed: u64, index: u64) -> ExitCode {
         }
         Err(Difference(what)) => {
             eprintln!("DIFFERENCE: {what}");
-            eprintln!(
-                "the model's buffer now: {}",
-                crate::call::hex(bench.bytes())
-            );
+            eprintln!("the model's buffer now: {}", hex(bench.bytes()));
             ExitCode::FAILURE
         }
     }

@@ -1,12 +1,14 @@
 //! The inputs: what kind the one of an index is, its buffer, and the calls made on it. All
 //! of it comes from the seed and the index alone.
 
+use ultra_model::generator::contexts::{self, Layout};
+use ultra_model::generator::given::Start;
+use ultra_model::generator::records::{lend, Record};
+use ultra_model::generator::rng::Rng;
+
 use crate::arguments::View;
-use crate::bench::{Bench, Difference, Start};
+use crate::bench::{Bench, Difference};
 use crate::call::{Call, CALLS};
-use crate::contexts::{self, Layout};
-use crate::records::{lend, Record};
-use crate::rng::Rng;
 
 #[derive(Clone, Copy, Debug, PartialEq, Eq)]
 pub enum Kind {
@@ -254,7 +256,7 @@ fn sequence(bench: &mut Bench, rng: &mut Rng) -> Result<(), Difference> {
                     _ => 3 + rng.below(4) as u32,
                 };
                 match rng.chance(70) {
-                    true => Record::good(rng, kind).call().expect("types 1 to 6"),
+                    true => Call::adding(Record::good(rng, kind)).expect("types 1 to 6"),
                     false => view.add(rng, kind),
                 }
             }
@@ -283,7 +285,7 @@ fn rebuild(bench: &mut Bench, rng: &mut Rng) -> Result<(), Difference> {
     bytes[..plain.len()].copy_from_slice(&plain);
 
     let mut made = [false; CALLS];
-    let adds = records.into_iter().filter_map(Record::call);
+    let adds = records.into_iter().filter_map(Call::adding);
     for call in std::iter::once(Call::Begin).chain(adds) {
         let answer = bench.call(&call)?;
         made[call.id()] = true;

@@ -2,7 +2,7 @@
 
 use std::ptr;
 
-use crate::call::Given;
+use ultra_model::generator::given::Given;
 
 const GUARD: usize = 64;
 

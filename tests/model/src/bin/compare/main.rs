@@ -22,8 +22,6 @@ mod bench;
 #[cfg(ultra_archive)]
 mod call;
 #[cfg(ultra_archive)]
-mod contexts;
-#[cfg(ultra_archive)]
 mod driver;
 #[cfg(ultra_archive)]
 mod ffi;
@@ -31,10 +29,6 @@ mod ffi;
 mod inputs;
 #[cfg(ultra_archive)]
 mod lent;
-#[cfg(ultra_archive)]
-mod records;
-#[cfg(ultra_archive)]
-mod rng;
 #[cfg(ultra_archive)]
 mod tally;
 

@@ -1,6 +1,8 @@
 //! What was run and met, and whether every number that a call can give was.
 
-use crate::call::{Call, Given, CALLS, NAMES, OWN, POSSIBLE};
+use ultra_model::generator::given::Given;
+
+use crate::call::{Call, CALLS, NAMES, OWN, POSSIBLE};
 use crate::inputs::Kind;
 
 const NUMBERS: usize = 20;

@@ -1,9 +1,9 @@
 //! Buffers: contexts laid out from records, and the many ways in which one is not quite a
 //! context.
 
-use crate::bench::Start;
-use crate::records::{lend, other_type, Record};
-use crate::rng::Rng;
+use crate::generator::given::Start;
+use crate::generator::records::{lend, other_type, Record};
+use crate::generator::rng::Rng;
 
 pub const ROOM: usize = 65_536;
 
@@ -25,7 +25,7 @@ impl Layout {
         layout
     }
 
-    fn recount(&mut self) {
+    pub fn recount(&mut self) {
         self.set_count(self.attributes.len() as u32);
     }
 
@@ -39,7 +39,7 @@ impl Layout {
         bytes
     }
 
-    fn used(&self) -> usize {
+    pub fn used(&self) -> usize {
         8 + self.attributes.iter().map(Vec::len).sum::<usize>()
     }
 
@@ -48,9 +48,9 @@ impl Layout {
     }
 
     /// A version, a reserved u16, sizes and silent bytes that the adds would never write.
-    fn make_foreign(&mut self, rng: &mut Rng) {
+    pub fn make_foreign(&mut self, rng: &mut Rng) {
         self.head[0] = rng.pick(&[1, 1, 2, 7, 128, 255]);
-        self.head[1] = rng.next() as u8;
+        self.head[1] = rng.word() as u8;
         rng.fill(&mut self.head[2..4]);
         for attribute in &mut self.attributes {
             if rng.chance(80) {
@@ -180,7 +180,7 @@ fn spare(rng: &mut Rng, count: usize) -> usize {
 fn junk(rng: &mut Rng, length: usize) -> Vec<u8> {
     match rng.below(4) {
         0 => vec![0; length],
-        1 => vec![rng.next() as u8; length],
+        1 => vec![rng.word() as u8; length],
         2 => {
             let kind = 1 + rng.below(7) as u32;
             let mut bytes = Record::good(rng, kind).attribute();
@@ -623,7 +623,7 @@ pub fn byte(rng: &mut Rng) -> Start {
         *byte = match rng.below(3) {
             0 => *byte ^ (1 << rng.below(8)),
             1 => rng.pick(&[0, 1, 127, 128, 255]),
-            _ => rng.next() as u8,
+            _ => rng.word() as u8,
         };
     }
     start

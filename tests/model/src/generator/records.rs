@@ -4,8 +4,8 @@
 //! The bytes of an attribute are laid out here from the paper's table once more, and not
 //! with the model, so that the model's own layout is compared too.
 
-use crate::call::{Call, Given};
-use crate::rng::Rng;
+use crate::generator::given::Given;
+use crate::generator::rng::Rng;
 
 #[derive(Clone, Debug)]
 pub struct Platform {
@@ -80,7 +80,7 @@ pub fn other_type(rng: &mut Rng) -> u32 {
         6 => rng.pick(&[0x100, 0x1_0000, 0x0100_0000]) + rng.below(8) as u32,
         7 => u32::MAX - rng.below(2) as u32,
         8 => 1 << 31 | rng.below(8) as u32,
-        _ => (rng.next() as u32).max(7),
+        _ => (rng.word() as u32).max(7),
     }
 }
 
@@ -213,14 +213,14 @@ fn platform(rng: &mut Rng) -> Platform {
     let name = plain_text(rng, length);
     Platform {
         kind: nonzero(rng, 32) as u32,
-        loader_major: rng.next() as u16,
-        loader_minor: rng.next() as u16,
+        loader_major: rng.word() as u16,
+        loader_minor: rng.word() as u16,
         name: lend(rng, name),
-        rsdp: rng.next(),
-        higher_half_base: rng.next(),
-        depth: rng.next() as u8,
-        dtb: rng.next(),
-        smbios: rng.next(),
+        rsdp: rng.word(),
+        higher_half_base: rng.word(),
+        depth: rng.word() as u8,
+        dtb: rng.word(),
+        smbios: rng.word(),
     }
 }
 
@@ -239,7 +239,7 @@ fn kernel(rng: &mut Rng) -> Kernel {
         0 => top,
         1 => 0,
         2 => physical_base,
-        _ if size == 0 => rng.next() / PAGE * PAGE,
+        _ if size == 0 => rng.word() / PAGE * PAGE,
         _ => rng.bits(64).min(top) / PAGE * PAGE,
     };
     let path = path(rng);
@@ -255,8 +255,8 @@ fn kernel(rng: &mut Rng) -> Kernel {
         partition_type: nonzero(rng, 64),
         disk_guid: lend(rng, disk),
         partition_guid: lend(rng, partition),
-        disk_index: rng.next() as u32,
-        partition_index: rng.next() as u32,
+        disk_index: rng.word() as u32,
+        partition_index: rng.word() as u32,
         path: lend(rng, path),
     }
 }
@@ -611,18 +611,5 @@ impl Record {
         attribute.extend((8 + at.len() as u32).to_le_bytes());
         attribute.extend(at);
         attribute
-    }
-
-    /// The call that adds the record; none adds a type from 7 up.
-    pub fn call(self) -> Option<Call> {
-        Some(match self {
-            Record::Platform(record) => Call::AddPlatform(record),
-            Record::Kernel(record) => Call::AddKernel(record),
-            Record::Map(entries) => Call::AddMap { entries },
-            Record::Module(record) => Call::AddModule(record),
-            Record::Line(text) => Call::AddCommandLine { text },
-            Record::Framebuffer(record) => Call::AddFramebuffer(record),
-            Record::Other(..) => return None,
-        })
     }
 }

@@ -16,14 +16,14 @@ impl Rng {
         Rng(mix(seed ^ mix(index.wrapping_add(GOLDEN))))
     }
 
-    pub fn next(&mut self) -> u64 {
+    pub fn word(&mut self) -> u64 {
         self.0 = self.0.wrapping_add(GOLDEN);
         mix(self.0)
     }
 
     /// A number below `n`, which is not 0.
     pub fn below(&mut self, n: usize) -> usize {
-        ((u128::from(self.next()) * n as u128) >> 64) as usize
+        ((u128::from(self.word()) * n as u128) >> 64) as usize
     }
 
     /// True in `percent` of 100.
@@ -40,13 +40,13 @@ impl Rng {
     pub fn bits(&mut self, width: usize) -> u64 {
         match self.below(width + 1) {
             0 => 0,
-            length => self.next() >> (64 - length),
+            length => self.word() >> (64 - length),
         }
     }
 
     pub fn fill(&mut self, bytes: &mut [u8]) {
         for chunk in bytes.chunks_mut(8) {
-            let random = self.next().to_le_bytes();
+            let random = self.word().to_le_bytes();
             chunk.copy_from_slice(&random[..chunk.len()]);
         }
     }
