@@ -3,7 +3,8 @@
  *
  * A context is a head of 8 bytes (major u8, minor u8, reserved u16, attribute count u32) and a run of attributes, each of which
  * begins with its type and its size (u32 each; the size counts the whole attribute). Numbers are little-endian. Members are at
- * the offsets of the protocol's structures: a context in memory that is aligned to 8 bytes can be read through those.
+ * the offsets of the protocol's structures: a context in memory that is aligned to 8 bytes can be read through those. At any
+ * address ultra_u16, ultra_u32 and ultra_u64 read a number from its bytes, and the constants ULTRA_.._OFFSET say where it is.
  *
  * No call keeps state, allocates, or relies on a check made before it: whatever the buffer holds, a call answers by the rules
  * below, and it returns.
@@ -39,6 +40,9 @@
  *
  * - A pointer and a length stand for that many bytes of memory, valid for the whole call: readable, and writable where the
  *   pointer is not to const. A null pointer is allowed with length 0, and only then. A length is at most PTRDIFF_MAX.
+ * - The protocol hands a kernel an address and no length: its buf_len is the memory that is readable from there on, as loader and
+ *   kernel agreed (a page, say), and not ULTRA_ROOM_MAX, unless that much is mapped. The context need not fill it; one that claims
+ *   more is refused.
  * - Memory that a call writes (buf without const, out) overlaps no other memory given in the same call.
  * - Nobody else writes the memory given while the call runs.
  * - Nothing else: no alignment is asked, and a buffer may hold any bytes.
@@ -108,6 +112,59 @@ extern "C" {
 #define ULTRA_MODULE_SIZE      96
 #define ULTRA_FRAMEBUFFER_SIZE 32
 
+/* Offsets of members from the start of their attribute, named as the adds name them, and their widths: a module's address, say, is
+ * ultra_u64(buf + start + ULTRA_MODULE_ADDRESS_OFFSET). A text ends before its first zero. "0: none" is where the protocol has
+ * "0 if not applicable or not present". */
+
+/* Every attribute. */
+#define ULTRA_ATTRIBUTE_TYPE_OFFSET 0 /* u32 */
+#define ULTRA_ATTRIBUTE_SIZE_OFFSET 4 /* u32, of the whole attribute */
+
+/* Platform. */
+#define ULTRA_PLATFORM_TYPE_OFFSET             8  /* u32 */
+#define ULTRA_PLATFORM_LOADER_MAJOR_OFFSET     12 /* u16 */
+#define ULTRA_PLATFORM_LOADER_MINOR_OFFSET     14 /* u16 */
+#define ULTRA_PLATFORM_NAME_OFFSET             16 /* text, in ULTRA_LOADER_NAME_MAX bytes */
+#define ULTRA_PLATFORM_RSDP_OFFSET             48 /* u64, 0: none */
+#define ULTRA_PLATFORM_HIGHER_HALF_BASE_OFFSET 56 /* u64, there from size 64 on */
+#define ULTRA_PLATFORM_DEPTH_OFFSET            64 /* u8, there from size 72 on */
+#define ULTRA_PLATFORM_DTB_OFFSET              72 /* u64, there from size 80 on, 0: none */
+#define ULTRA_PLATFORM_SMBIOS_OFFSET           80 /* u64, there from size 88 on, 0: none */
+
+/* Kernel. */
+#define ULTRA_KERNEL_PHYSICAL_BASE_OFFSET   8  /* u64 */
+#define ULTRA_KERNEL_VIRTUAL_BASE_OFFSET    16 /* u64 */
+#define ULTRA_KERNEL_SIZE_OFFSET            24 /* u64, of the kernel, not of the attribute */
+#define ULTRA_KERNEL_PARTITION_TYPE_OFFSET  32 /* u64 */
+#define ULTRA_KERNEL_DISK_GUID_OFFSET       40 /* ULTRA_GUID_SIZE bytes */
+#define ULTRA_KERNEL_PARTITION_GUID_OFFSET  56 /* ULTRA_GUID_SIZE bytes */
+#define ULTRA_KERNEL_DISK_INDEX_OFFSET      72 /* u32 */
+#define ULTRA_KERNEL_PARTITION_INDEX_OFFSET 76 /* u32 */
+#define ULTRA_KERNEL_PATH_OFFSET            80 /* text, in ULTRA_PATH_MAX bytes */
+
+/* Map: its entries, one behind the other; and the members of an entry, from the entry's start. */
+#define ULTRA_MAP_ENTRIES_OFFSET       8  /* ULTRA_MAP_ENTRY_SIZE bytes each */
+#define ULTRA_MAP_ENTRY_ADDRESS_OFFSET 0  /* u64 */
+#define ULTRA_MAP_ENTRY_SIZE_OFFSET    8  /* u64 */
+#define ULTRA_MAP_ENTRY_TYPE_OFFSET    16 /* u64 */
+
+/* Module. */
+#define ULTRA_MODULE_TYPE_OFFSET    12 /* u32 */
+#define ULTRA_MODULE_NAME_OFFSET    16 /* text, in ULTRA_MODULE_NAME_MAX bytes */
+#define ULTRA_MODULE_ADDRESS_OFFSET 80 /* u64 */
+#define ULTRA_MODULE_SIZE_OFFSET    88 /* u64, of the module, not of the attribute */
+
+/* Command line. */
+#define ULTRA_COMMAND_LINE_TEXT_OFFSET 8 /* text, in what is left of the attribute */
+
+/* Framebuffer. */
+#define ULTRA_FRAMEBUFFER_WIDTH_OFFSET   8  /* u32 */
+#define ULTRA_FRAMEBUFFER_HEIGHT_OFFSET  12 /* u32 */
+#define ULTRA_FRAMEBUFFER_PITCH_OFFSET   16 /* u32 */
+#define ULTRA_FRAMEBUFFER_BPP_OFFSET     20 /* u16 */
+#define ULTRA_FRAMEBUFFER_FORMAT_OFFSET  22 /* u16 */
+#define ULTRA_FRAMEBUFFER_ADDRESS_OFFSET 24 /* u64 */
+
 /* Constants of the protocol, spelled as in its published text, so that a header made from that can be included too. */
 
 #define ULTRA_ATTRIBUTE_INVALID          0
@@ -171,6 +228,22 @@ static inline uint32_t ultra_text_length(uint64_t line)
     return (uint32_t)(line & 0xFFFFFFFFu);
 }
 
+/* The number that these 2, 4 or 8 bytes are, the least byte first; no alignment is asked. */
+static inline uint16_t ultra_u16(const uint8_t *bytes)
+{
+    return (uint16_t)(bytes[0] | bytes[1] << 8);
+}
+
+static inline uint32_t ultra_u32(const uint8_t *bytes)
+{
+    return ultra_u16(bytes) | (uint32_t)ultra_u16(bytes + 2) << 16;
+}
+
+static inline uint64_t ultra_u64(const uint8_t *bytes)
+{
+    return ultra_u32(bytes) | (uint64_t)ultra_u32(bytes + 4) << 32;
+}
+
 /* A cursor: which attribute is next in stepping, and where it starts. */
 struct ultra_cursor {
     uint32_t index;
@@ -227,6 +300,8 @@ uint64_t ultra_read(const uint8_t *buf, size_t buf_len);
  *     struct ultra_cursor at = ultra_first_cursor();
  *     uint64_t answer = ultra_step(buf, buf_len, at.index, at.offset);
  *     while (answer != 0 && ultra_number(answer) == ULTRA_OK) {
+ *         uint32_t type = ultra_u32(buf + at.offset + ULTRA_ATTRIBUTE_TYPE_OFFSET);
+ *         uint32_t size = ultra_value(answer) - at.offset;
  *         ... the attribute at buf + at.offset ...
  *         at = ultra_next_cursor(at, answer);
  *         answer = ultra_step(buf, buf_len, at.index, at.offset);
@@ -250,11 +325,20 @@ uint64_t ultra_begin(uint8_t *buf, size_t buf_len);
  * head's count is raised by one; no other byte changes.
  * Refusals: those of reading but ULTRA_MISSING, each with its own offset; then those of the call's comment, in the order given
  * there, all with the used length that the buffer has.
- * A text is given as its bytes, without a closing zero: a zero byte in it is ULTRA_TEXT.
+ * Which of the two a refusal is: 1 to 8 are reading's, ULTRA_FULL and ULTRA_ROOM the call's own. 9 to 16 are the call's own if the
+ * value is the used length, and reading's if it is the start of an attribute, which is below that. Once ultra_begin or ultra_read
+ * has succeeded, and as long as only these calls write the buffer and its length stays, there are none of reading: a refusal is the
+ * call's own, and its value is the used length that was answered last.
+ * A text is given as its bytes, without a closing zero: a zero byte in it is ULTRA_TEXT. A string literal brings such a zero along,
+ * so a forgotten - 1 is ULTRA_TEXT too:
+ *
+ *     static const uint8_t line[] = "quiet";
+ *     uint64_t answer = ultra_add_command_line(buf, buf_len, line, sizeof line - 1);
  */
 
 /*
- * Adds the platform, all of its members present.
+ * Adds the platform, all of its members present. By the protocol rsdp, dtb and smbios are physical addresses, each 0 if not
+ * applicable or not present.
  * Refusals of its own: ULTRA_FULL. ULTRA_PLACE: there is an attribute already. ULTRA_VALUE: type 0. ULTRA_TEXT: the name has more
  * than 31 bytes or one that is not 1 to 127. ULTRA_ROOM: fewer than 88 bytes left.
  */
@@ -263,7 +347,8 @@ uint64_t ultra_add_platform(uint8_t *buf, size_t buf_len, uint32_t type, uint16_
                             uint64_t dtb, uint64_t smbios);
 
 /*
- * Adds the kernel. GUIDs are 16 bytes each, taken as they are for every partition type.
+ * Adds the kernel. GUIDs are 16 bytes each, taken as they are for every partition type. By the protocol they are valid for
+ * ULTRA_PARTITION_TYPE_GPT alone: where there are none, give 16 zero bytes, since NULL with length 0 is ULTRA_FORM.
  * Refusals of its own: ULTRA_FULL. ULTRA_PLACE: there is not just one attribute. ULTRA_FORM: a GUID's length is not 16.
  * ULTRA_VALUE: a base or the size is no multiple of 4,096, or the partition type is 0. ULTRA_TEXT: the path is empty, does not
  * begin with '/', has more than 255 bytes or a zero byte. ULTRA_RANGE: physical base + size or virtual base + size passes 2^64.
@@ -276,7 +361,8 @@ uint64_t ultra_add_kernel(uint8_t *buf, size_t buf_len, uint64_t physical_base, 
 
 /*
  * Adds a memory map. Its entries are given as bytes: address, size and type of each, as little-endian numbers of 8 bytes. No
- * bytes are a map of no entries.
+ * bytes are a map of no entries. On x86-64, which is little-endian, an array of structs of three uint64_t (address, size, type) can
+ * be given as it is: (const uint8_t *)array, sizeof array.
  * Refusals of its own: ULTRA_FULL. ULTRA_PLACE: there are fewer than two attributes. ULTRA_REPEAT: there is a map. ULTRA_FORM: the
  * length is no multiple of 24. ULTRA_VALUE: a type is 0. ULTRA_RANGE: an entry's address + size passes 2^64. ULTRA_ORDER: an entry's
  * address is below the end of the one before it. ULTRA_ROOM: fewer than 8 + entries_len bytes left.
@@ -309,9 +395,9 @@ uint64_t ultra_add_framebuffer(uint8_t *buf, size_t buf_len, uint32_t width, uin
                                uint16_t format, uint64_t address);
 
 /*
- * Where the attribute at an index starts; its type, size and members are in the buffer there. Of a platform, look at the size
- * before a late member: the higher half base is there from size 64 on, the depth from 72, dtb from 80, smbios from 88. What stands
- * behind a shorter one belongs to the kernel attribute.
+ * Where the attribute at an index starts; its type, size and members are in the buffer there, each at its ULTRA_.._OFFSET. Of a
+ * platform, look at the size before a late member: the higher half base is there from size 64 on, the depth from 72, dtb from 80,
+ * smbios from 88. What stands behind a shorter one belongs to the kernel attribute.
  * Success: its start.
  * Refusals: those of reading; then ULTRA_COUNT with the used length, for an index at or past the count.
  */
@@ -319,7 +405,8 @@ uint64_t ultra_attribute(const uint8_t *buf, size_t buf_len, uint64_t index);
 
 /*
  * Copies the memory map out: address, size and type of each entry, as little-endian numbers of 8 bytes. Of the output only whole
- * eights count. A map of n entries needs 24 * n bytes; bytes behind those stay as they are.
+ * eights count. A map of n entries needs 24 * n bytes; bytes behind those stay as they are. On x86-64 the output can be
+ * an array of structs, as for ultra_add_map: (uint8_t *)array, sizeof array.
  * Success: n, the number of entries.
  * Refusals: those of reading; then, with the used length, ULTRA_ABSENT, and ULTRA_ROOM where the output is too short.
  */
@@ -334,7 +421,7 @@ uint64_t ultra_command_line(const uint8_t *buf, size_t buf_len);
 
 /*
  * Which module holds an address: the first in the context with its address <= the given one < its address + size.
- * Success: the start of that module's attribute, or 0 where none holds it.
+ * Success: the start of that module's attribute (its name is at ULTRA_MODULE_NAME_OFFSET from there), or 0 where none holds it.
  * Refusals: those of reading.
  */
 uint64_t ultra_module_holding(const uint8_t *buf, size_t buf_len, uint64_t address);

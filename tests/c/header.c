@@ -1,6 +1,7 @@
 /*
  * The header by itself, compiled as C99 and as C++17 with every warning an error: nothing is included before it, it is included
  * twice, its constants have document 01's numbers, its calls the widths and the order of their parameters, its helpers work.
+ * The offsets of members are held to the protocol's structures, in layout.c.
  */
 #include "ultra.h"
 #include "ultra.h"
@@ -78,6 +79,17 @@ static int helpers_work(void)
            next.offset == 96;
 }
 
+/* At an odd address, with high bits that must not spread and zeros that must stay. */
+static int numbers_work(void)
+{
+    static const uint8_t high[] = {0xFF, 0x81, 0x92, 0xA3, 0xB4, 0xC5, 0xD6, 0xE7, 0xF8, 0xFF};
+    static const uint8_t low[] = {0xFF, 0x80, 0, 0, 0, 0, 0, 0, 0, 0xFF};
+
+    return ultra_u16(high + 1) == 0x9281u && ultra_u32(high + 1) == 0xB4A39281u &&
+           ultra_u64(high + 1) == UINT64_C(0xF8E7D6C5B4A39281) && ultra_u16(low + 1) == 0x80u &&
+           ultra_u32(low + 1) == 0x80u && ultra_u64(low + 1) == 0x80u;
+}
+
 /* Each call by its address, on an empty buffer: the symbols are C's, from C++ too. */
 static int calls_answer(void)
 {
@@ -93,7 +105,7 @@ static int calls_answer(void)
 
 int main(void)
 {
-    if (!helpers_work() || !calls_answer()) {
+    if (!helpers_work() || !numbers_work() || !calls_answer()) {
         fprintf(stderr, "header: a helper or a call answers wrongly\n");
         return 1;
     }

@@ -1,6 +1,6 @@
 /*
  * The published layout, seen from the other side: contexts that the library builds are read through the protocol's structures and
- * macros alone, and contexts built through those are read by the library.
+ * macros alone, and contexts built through those are read by the library. The header's offsets are held to the structures'.
  */
 #include "check.h"
 #include "protocol.h"
@@ -224,6 +224,105 @@ static void see_what_was_built(int fill)
     CHECK_ANSWER(ultra_read(buf, ROOM), ULTRA_OK, used);
     free(buf);
     free(untouched);
+}
+
+/* ---- Built by the library, read through the header's offsets ---- */
+
+/* Each offset is the structure's. */
+#define SAME(offset, structure, member) _Static_assert((offset) == offsetof(struct structure, member), #offset)
+
+SAME(ULTRA_ATTRIBUTE_TYPE_OFFSET, ultra_attribute_header, type);
+SAME(ULTRA_ATTRIBUTE_SIZE_OFFSET, ultra_attribute_header, size);
+SAME(ULTRA_PLATFORM_TYPE_OFFSET, platform_info_attribute, platform_type);
+SAME(ULTRA_PLATFORM_LOADER_MAJOR_OFFSET, platform_info_attribute, loader_major);
+SAME(ULTRA_PLATFORM_LOADER_MINOR_OFFSET, platform_info_attribute, loader_minor);
+SAME(ULTRA_PLATFORM_NAME_OFFSET, platform_info_attribute, loader_name);
+SAME(ULTRA_PLATFORM_RSDP_OFFSET, platform_info_attribute, acpi_rsdp_address);
+SAME(ULTRA_PLATFORM_HIGHER_HALF_BASE_OFFSET, platform_info_attribute, higher_half_base);
+SAME(ULTRA_PLATFORM_DEPTH_OFFSET, platform_info_attribute, page_table_depth);
+SAME(ULTRA_PLATFORM_DTB_OFFSET, platform_info_attribute, dtb_address);
+SAME(ULTRA_PLATFORM_SMBIOS_OFFSET, platform_info_attribute, smbios_address);
+SAME(ULTRA_KERNEL_PHYSICAL_BASE_OFFSET, ultra_kernel_info_attribute, physical_base);
+SAME(ULTRA_KERNEL_VIRTUAL_BASE_OFFSET, ultra_kernel_info_attribute, virtual_base);
+SAME(ULTRA_KERNEL_SIZE_OFFSET, ultra_kernel_info_attribute, size);
+SAME(ULTRA_KERNEL_PARTITION_TYPE_OFFSET, ultra_kernel_info_attribute, partition_type);
+SAME(ULTRA_KERNEL_DISK_GUID_OFFSET, ultra_kernel_info_attribute, disk_guid);
+SAME(ULTRA_KERNEL_PARTITION_GUID_OFFSET, ultra_kernel_info_attribute, partition_guid);
+SAME(ULTRA_KERNEL_DISK_INDEX_OFFSET, ultra_kernel_info_attribute, disk_index);
+SAME(ULTRA_KERNEL_PARTITION_INDEX_OFFSET, ultra_kernel_info_attribute, partition_index);
+SAME(ULTRA_KERNEL_PATH_OFFSET, ultra_kernel_info_attribute, fs_path);
+SAME(ULTRA_MAP_ENTRIES_OFFSET, ultra_memory_map_attribute, entries);
+SAME(ULTRA_MAP_ENTRY_ADDRESS_OFFSET, ultra_memory_map_entry, physical_address);
+SAME(ULTRA_MAP_ENTRY_SIZE_OFFSET, ultra_memory_map_entry, size);
+SAME(ULTRA_MAP_ENTRY_TYPE_OFFSET, ultra_memory_map_entry, type);
+SAME(ULTRA_MODULE_TYPE_OFFSET, ultra_module_info_attribute, type);
+SAME(ULTRA_MODULE_NAME_OFFSET, ultra_module_info_attribute, name);
+SAME(ULTRA_MODULE_ADDRESS_OFFSET, ultra_module_info_attribute, address);
+SAME(ULTRA_MODULE_SIZE_OFFSET, ultra_module_info_attribute, size);
+SAME(ULTRA_COMMAND_LINE_TEXT_OFFSET, ultra_command_line_attribute, text);
+SAME(ULTRA_FRAMEBUFFER_WIDTH_OFFSET, ultra_framebuffer_attribute, fb.width);
+SAME(ULTRA_FRAMEBUFFER_HEIGHT_OFFSET, ultra_framebuffer_attribute, fb.height);
+SAME(ULTRA_FRAMEBUFFER_PITCH_OFFSET, ultra_framebuffer_attribute, fb.pitch);
+SAME(ULTRA_FRAMEBUFFER_BPP_OFFSET, ultra_framebuffer_attribute, fb.bpp);
+SAME(ULTRA_FRAMEBUFFER_FORMAT_OFFSET, ultra_framebuffer_attribute, fb.format);
+SAME(ULTRA_FRAMEBUFFER_ADDRESS_OFFSET, ultra_framebuffer_attribute, fb.physical_address);
+
+/* And each width is the one that the header's comment says, also at an odd address, where no structure could be used. */
+static void see_through_offsets(void)
+{
+    uint8_t *memory = new_buffer(ROOM + 1, 0xA5);
+    uint8_t *buf = memory + 1;
+    const uint8_t *at[7];
+
+    checks_name("built by the library at an odd address");
+    build_every_type(buf, ROOM);
+    for (uint32_t index = 0; index < 7; index++)
+        at[index] = buf + ultra_value(ultra_attribute(buf, ROOM, index));
+
+    CHECK(ultra_u32(at[0] + ULTRA_ATTRIBUTE_TYPE_OFFSET) == ULTRA_ATTRIBUTE_PLATFORM_INFO);
+    CHECK(ultra_u32(at[0] + ULTRA_ATTRIBUTE_SIZE_OFFSET) == ULTRA_PLATFORM_SIZE);
+    CHECK(ultra_u32(at[0] + ULTRA_PLATFORM_TYPE_OFFSET) == 0x01020304);
+    CHECK(ultra_u16(at[0] + ULTRA_PLATFORM_LOADER_MAJOR_OFFSET) == 0x0506);
+    CHECK(ultra_u16(at[0] + ULTRA_PLATFORM_LOADER_MINOR_OFFSET) == 0x0708);
+    CHECK_BYTES(at[0] + ULTRA_PLATFORM_NAME_OFFSET, bytes(loader_name), ULTRA_LOADER_NAME_MAX);
+    CHECK(ultra_u64(at[0] + ULTRA_PLATFORM_RSDP_OFFSET) == 0x1112131415161718);
+    CHECK(ultra_u64(at[0] + ULTRA_PLATFORM_HIGHER_HALF_BASE_OFFSET) == 0x2122232425262728);
+    CHECK(at[0][ULTRA_PLATFORM_DEPTH_OFFSET] == 0x31);
+    CHECK(ultra_u64(at[0] + ULTRA_PLATFORM_DTB_OFFSET) == 0x4142434445464748);
+    CHECK(ultra_u64(at[0] + ULTRA_PLATFORM_SMBIOS_OFFSET) == 0x5152535455565758);
+
+    CHECK(ultra_u64(at[1] + ULTRA_KERNEL_PHYSICAL_BASE_OFFSET) == 0x6162636465666000);
+    CHECK(ultra_u64(at[1] + ULTRA_KERNEL_VIRTUAL_BASE_OFFSET) == 0x7172737475767000);
+    CHECK(ultra_u64(at[1] + ULTRA_KERNEL_SIZE_OFFSET) == 0x0000000000ABC000);
+    CHECK(ultra_u64(at[1] + ULTRA_KERNEL_PARTITION_TYPE_OFFSET) == 0x8182838485868788);
+    CHECK_BYTES(at[1] + ULTRA_KERNEL_DISK_GUID_OFFSET, disk_guid, ULTRA_GUID_SIZE);
+    CHECK_BYTES(at[1] + ULTRA_KERNEL_PARTITION_GUID_OFFSET, partition_guid, ULTRA_GUID_SIZE);
+    CHECK(ultra_u32(at[1] + ULTRA_KERNEL_DISK_INDEX_OFFSET) == 0x91929394);
+    CHECK(ultra_u32(at[1] + ULTRA_KERNEL_PARTITION_INDEX_OFFSET) == 0xA1A2A3A4);
+    CHECK_BYTES(at[1] + ULTRA_KERNEL_PATH_OFFSET, bytes(kernel_path), sizeof kernel_path);
+
+    for (size_t which = 0; which < MAP_COUNT; which++) {
+        const uint8_t *entry = at[2] + ULTRA_MAP_ENTRIES_OFFSET + which * ULTRA_MAP_ENTRY_SIZE;
+
+        CHECK(ultra_u64(entry + ULTRA_MAP_ENTRY_ADDRESS_OFFSET) == map_entries[which].physical_address);
+        CHECK(ultra_u64(entry + ULTRA_MAP_ENTRY_SIZE_OFFSET) == map_entries[which].size);
+        CHECK(ultra_u64(entry + ULTRA_MAP_ENTRY_TYPE_OFFSET) == map_entries[which].type);
+    }
+
+    CHECK(ultra_u32(at[4] + ULTRA_MODULE_TYPE_OFFSET) == ULTRA_MODULE_TYPE_MEMORY);
+    CHECK_BYTES(at[4] + ULTRA_MODULE_NAME_OFFSET, bytes(module_names[1]), ULTRA_MODULE_NAME_MAX);
+    CHECK(ultra_u64(at[4] + ULTRA_MODULE_ADDRESS_OFFSET) == 0xD1D2D3D4D5D6D000);
+    CHECK(ultra_u64(at[4] + ULTRA_MODULE_SIZE_OFFSET) == 0x00000000E1E2E3E4);
+
+    CHECK_BYTES(at[5] + ULTRA_COMMAND_LINE_TEXT_OFFSET, bytes(command_line), sizeof command_line);
+
+    CHECK(ultra_u32(at[6] + ULTRA_FRAMEBUFFER_WIDTH_OFFSET) == 0x00000102);
+    CHECK(ultra_u32(at[6] + ULTRA_FRAMEBUFFER_HEIGHT_OFFSET) == 0x03040506);
+    CHECK(ultra_u32(at[6] + ULTRA_FRAMEBUFFER_PITCH_OFFSET) == 0x00010708);
+    CHECK(ultra_u16(at[6] + ULTRA_FRAMEBUFFER_BPP_OFFSET) == 32);
+    CHECK(ultra_u16(at[6] + ULTRA_FRAMEBUFFER_FORMAT_OFFSET) == ULTRA_FB_FORMAT_XRGB8888);
+    CHECK(ultra_u64(at[6] + ULTRA_FRAMEBUFFER_ADDRESS_OFFSET) == 0x2324252627282930);
+    free(memory);
 }
 
 /* ---- Built through the structures, read by the library ---- */
@@ -651,6 +750,7 @@ int main(void)
     see_what_was_built(0x00);
     see_what_was_built(0xA5);
     see_what_was_built(UNINITIALISED);
+    see_through_offsets();
     read_foreign(0x00);
     read_foreign(0x5A);
     read_foreign(0xFF);
