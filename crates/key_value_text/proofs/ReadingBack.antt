@@ -10,7 +10,7 @@ use lib.Dec.{leb, ltb, eqb}
 use borrow.Author.Tests.{ltb-true, ltb-false, lt-ltb, le-ltb, leb-false, eqb-false, eq-eqb, ne-eqb}
 use Rattle.key_value_text.specs.Lines.{Value, Value.numbers, Value.text, Value.hex, Value.absent, Line, keyBytes, valueBytes, lineBytes}
 use Rattle.key_value_text.specs.Spelling.{pick, each, digits, decimal, behind, joined, hexDigit, hexPair, isEscaped, spelled}
-use Rattle.key_value_text.specs.ReadingBack.{shifted, numberFrom, numberIn, numbersFrom, numbersIn, hexValue, bytesIn, Place.atByte, Place.atFirst, Place.atSecond, textFrom, textIn, before, cut, All, Short, Byte, Not, Separated, ReadsBack}
+use Rattle.key_value_text.specs.ReadingBack.{shifted, numberFrom, numberIn, numbersFrom, numbersIn, hexValue, bytesIn, Place.atByte, Place.atFirst, Place.atSecond, textFrom, textIn, before, cut, All, Short, Byte, Differs, Separated, ReadsBack}
 use Rattle.key_value_text.proofs.Digits.{one-digit, more-digits, escaped-byte, plain-byte}
 
 -- ---- lists of which all elements meet a condition
@@ -117,7 +117,7 @@ text-back [] h = refl
 text-back (b ∷ t) h = byte-back b (each spelled t) (isEscaped b) refl (h .0) ∙ ap (λ (l : List ℕ). b ∷ l) (text-back t (h .1))
 
 -- ---- lines
-cut-back : (c : ℕ) (l rest : List ℕ) → All (Not c) l → cut c (l ++ (c ∷ rest)) ≡ (l, rest)
+cut-back : (c : ℕ) (l rest : List ℕ) → All (Differs c) l → cut c (l ++ (c ∷ rest)) ≡ (l, rest)
 unfolding All cut
 cut-back c [] rest h = rw (eq-eqb c c refl)
 cut-back c (x ∷ l) rest h = rw (ne-eqb x c (h .0)) (ap (before x) (cut-back c l rest (h .1)))
@@ -128,33 +128,33 @@ unfolding hexDigit
 hex-least d true e = rw e (omega arith)
 hex-least d false e = rw e (omega arith)
 
-pair-clean : (b : ℕ) → All (Not 10) (hexPair b)
+pair-clean : (b : ℕ) → All (Differs 10) (hexPair b)
 unfolding All
 pair-clean b = (λ e. omega (arith, hex-least (b / 16) (ltb (b / 16) 10) refl), (λ e. omega (arith, hex-least (b % 16) (ltb (b % 16) 10) refl), tt))
 
-byte-clean : (b : ℕ) (t : Bool) → isEscaped b ≡ t → All (Not 10) (spelled b)
+byte-clean : (b : ℕ) (t : Bool) → isEscaped b ≡ t → All (Differs 10) (spelled b)
 unfolding All
 byte-clean b true e = rw (escaped-byte b e) ((λ f. omega arith), pair-clean b)
 byte-clean b false e = rw (plain-byte b e) ((λ f. omega (arith, leb-false b 31 (not-escaped b e .0))), tt)
 
-digits-clean : (n : ℕ) → All (Not 10) (decimal n)
+digits-clean : (n : ℕ) → All (Differs 10) (decimal n)
 unfolding Digit
-digits-clean n = all-weaker Digit (Not 10) (λ d h e. omega arith) (decimal n) (all-digits 20 n)
+digits-clean n = all-weaker Digit (Differs 10) (λ d h e. omega arith) (decimal n) (all-digits 20 n)
 
-joined-clean : (c : ℕ) (ns : List ℕ) → Not 10 c → All (Not 10) (joined c ns)
+joined-clean : (c : ℕ) (ns : List ℕ) → Differs 10 c → All (Differs 10) (joined c ns)
 unfolding All
 joined-clean c [] h = tt
 joined-clean c (n ∷ ns) h =
-    all-append (Not 10) (decimal n) (each (behind c) ns) (digits-clean n) (all-each (Not 10) (behind c) (λ m. (h, digits-clean m)) ns)
+    all-append (Differs 10) (decimal n) (each (behind c) ns) (digits-clean n) (all-each (Differs 10) (behind c) (λ m. (h, digits-clean m)) ns)
 
-value-clean : (v : Value) → Separated v → All (Not 10) (valueBytes v)
+value-clean : (v : Value) → Separated v → All (Differs 10) (valueBytes v)
 unfolding All valueBytes
 value-clean (numbers c ns) s = joined-clean c ns (s .1)
-value-clean (text t) s = all-each (Not 10) spelled (λ b. byte-clean b (isEscaped b) refl) t
-value-clean (hex l) s = all-each (Not 10) hexPair pair-clean l
+value-clean (text t) s = all-each (Differs 10) spelled (λ b. byte-clean b (isEscaped b) refl) t
+value-clean (hex l) s = all-each (Differs 10) hexPair pair-clean l
 value-clean absent s = ((λ e. omega arith), tt)
 
-key-back : (x : Line) (rest : List ℕ) → All (Not 61) (x .key) → cut 61 (lineBytes x ++ rest) ≡ (x .key, valueBytes (x .value) ++ (10 ∷ rest))
+key-back : (x : Line) (rest : List ℕ) → All (Differs 61) (x .key) → cut 61 (lineBytes x ++ rest) ≡ (x .key, valueBytes (x .value) ++ (10 ∷ rest))
 unfolding lineBytes
 key-back x rest h = simp append-assoc (cut-back 61 (x .key) (valueBytes (x .value) ++ (10 ∷ rest)) h)
 

@@ -1,5 +1,5 @@
--- What spelled bytes say, and the statement that it is what was spelled: so that a spelling stands for one value, and a text of lines for
--- one list of lines. Proved in proofs/ReadingBack.antt: `reads-back`.
+-- What spelled bytes say, and the statement that it is what was spelled: where its form and separator are known, a spelling stands for one
+-- value, and the first line of a text has one key and one spelled value. Proved in proofs/ReadingBack.antt: `reads-back`.
 -- Assumes nothing.
 use Prim.Native.Nat.{ℕ, _+_, _-_, _*_, _^_, _<_}
 use Prim.Native.Char.{code}
@@ -10,7 +10,7 @@ use Rattle.key_value_text.specs.Spelling.{pick, each, decimal, joined, h
 use Rattle.key_value_text.specs.Lines.{Value, Value.numbers, Value.text, Value.hex, Value.absent, Line, valueBytes, lineBytes}
 
 -- ---- what bytes say
--- the number behind n that digits say
+-- n with one digit more behind it
 abbrev pub shifted : ℕ → ℕ → ℕ
 shifted n d = 10 * n + (d - code "0")
 
@@ -52,10 +52,10 @@ textFrom (atSecond v) (x ∷ l) = (16 * v + hexValue x) ∷ textFrom atByte l
 abbrev pub textIn : List ℕ → List ℕ
 textIn l = textFrom atByte l
 
--- what stands before the first c, and what stands behind it
 abbrev pub before : ℕ → List ℕ × List ℕ → List ℕ × List ℕ
 before x p = (x ∷ p .0, p .1)
 
+-- what stands before the first c, and what stands behind it
 unfoldable pub cut : ℕ → List ℕ → List ℕ × List ℕ
 cut c [] = ([], [])
 cut c (x ∷ l) = pick (eqb x c) ([], l) (before x (cut c l))
@@ -65,18 +65,19 @@ unfoldable pub All : (ℕ → Type 0) → List ℕ → Type 0
 All P [] = Unit {0}
 All P (x ∷ l) = P x × All P l
 
+-- at most 20 digits
 abbrev pub Short : ℕ → Type 0
 Short n = n < 10 ^ 20
 
 abbrev pub Byte : ℕ → Type 0
 Byte b = b < 256
 
-abbrev pub Not : ℕ → ℕ → Type 0
-Not c x = x ≡ c → ⊥
+abbrev pub Differs : ℕ → ℕ → Type 0
+Differs c x = x ≡ c → ⊥
 
 -- a separator is neither a digit nor a newline
 abbrev pub Separated : Value → Type 0
-Separated (numbers c ns) = (c < code "0") × Not (code "\n") c
+Separated (numbers c ns) = (c < code "0") × Differs (code "\n") c
 Separated (text t) = Unit {0}
 Separated (hex l) = Unit {0}
 Separated absent = Unit {0}
@@ -87,5 +88,5 @@ pub record ReadsBack : Type 0 where
   pub hex : (l : List ℕ) → All Byte l → bytesIn (each hexPair l) ≡ l
   pub text : (t : List ℕ) → All Byte t → textIn (each spelled t) ≡ t
   -- a line's key ends with its first `=`, and its value with the first newline behind that
-  pub key : (x : Line) (rest : List ℕ) → All (Not (code "=")) (x .key) → cut (code "=") (lineBytes x ++ rest) ≡ (x .key, valueBytes (x .value) ++ (code "\n" ∷ rest))
+  pub key : (x : Line) (rest : List ℕ) → All (Differs (code "=")) (x .key) → cut (code "=") (lineBytes x ++ rest) ≡ (x .key, valueBytes (x .value) ++ (code "\n" ∷ rest))
   pub value : (v : Value) (rest : List ℕ) → Separated v → cut (code "\n") (valueBytes v ++ (code "\n" ∷ rest)) ≡ (valueBytes v, rest)

@@ -34,7 +34,7 @@ digits (suc k) n = pick (ltb n 10) ((code "0" + n) ∷ []) (digits k (n / 10) ++
 abbrev pub decimal : ℕ → List ℕ
 decimal n = digits 20 n
 
--- what stands in front of every number but the first
+-- a number with the separator in front, as every one but the first has
 abbrev pub behind : ℕ → ℕ → List ℕ
 behind separator n = separator ∷ decimal n
 
@@ -43,7 +43,7 @@ abbrev pub joined : ℕ → List ℕ → List ℕ
 joined separator [] = []
 joined separator (n ∷ ns) = decimal n ++ each (behind separator) ns
 
--- ---- raw bytes: "two capital hex digits" a byte
+-- ---- raw bytes: two digits a byte, "64 capital hex digits" for two GUIDs
 -- a digit below 16: `0` to `9`, then `A` to `F`
 unfoldable pub hexDigit : ℕ → ℕ
 hexDigit d = pick (ltb d 10) (code "0" + d) (code "A" + (d - 10))

@@ -1,10 +1,15 @@
 // Lists the context on standard input: document 01, "The listing". What is printed is made by `ultra_listing::list`, and nothing else is.
+ghost use Prim.Native.Nat.{_≤_};
+ghost use lib.ListN.{length};
+ghost use Rattle.ultra_listing.specs.Listing.{listingMost};
 use libc::STDIN_FILENO;
 use libc::STDOUT_FILENO;
 use ultra_format::Answer;
 
-// Prints the listing of `input`, which is made in `text`.
-fn print(input: &[u8], text: &mut [u8]) {
+// Prints the listing of `input`, which is made in `text`: no listing is longer (`ListingFits`), so none is refused.
+fn print(input: &[u8], text: &mut [u8])
+    requires { ⌜ listingMost ≤ length (now text) ⌝ }
+{
     let answer = ultra_listing::list(input, text);
     let Answer::Done(length) = answer else {
         return;
@@ -16,7 +21,6 @@ fn print(input: &[u8], text: &mut [u8]) {
 fn main() {
     let mut input = io::large_buffer();
     let read = io::read_full(STDIN_FILENO, &mut input);
-    // No listing is longer: `ListingFits` of ultra_listing/specs/Listing.antt.
     let mut text = [0u8; 524352];
     print(&input[..read], &mut text);
 }

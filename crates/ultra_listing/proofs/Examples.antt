@@ -15,4 +15,4 @@ use Rattle.ultra_listing.specs.Examples.{Examples}
 
 pub examples : Examples
 unfolding numberAt bytesAt textAt valueBytes lineBytes each digits hexDigit isEscaped spelled total every sizeSuits values kernelValues moduleValues bppSuits framebufferValues texts asciiText pathText ranges ordered entriesOrdered bodyFault placed occurs placeFault entriesAt decoded start attributesFrom contextOf typesBefore headFault boundsFault attributeFault attributesAnswer usedLength rangeLines bodyLines attributesLines contextLines linesOf
-examples = record { listed = refl; everyType = refl; refused = refl; escapes = refl; zero = refl; nine = refl; ten = refl; largest = refl }
+examples = record { listed = refl; everyType = refl; short = refl; refused = refl; escapes = refl; zero = refl; nine = refl; ten = refl; largest = refl }

@@ -1,9 +1,10 @@
--- Statement: the listing of document 01, and of a context with every type, whose silent bytes are not zero, that of a refused buffer, and
--- how numbers and texts are spelled at their boundaries. Proved in proofs/Examples.antt: `examples`.
+-- Statement: the listing of document 01, and of a context with every type, whose silent bytes are not zero, of one with absent members, of
+-- a refused buffer, and how numbers and texts are spelled at their boundaries. Proved in proofs/Examples.antt: `examples`.
 -- Assumes nothing.
 use Prim.Native.Nat.{ℕ}
 use mathlib.Core.Path.{_≡_}
 use mathlib.Core.List.{List, [], _∷_, _++_}
+use lib.ListN.{replicate}
 use Rattle.key_value_text.specs.Spelling.{ascii, each, decimal, spelled}
 use Rattle.ultra_format.specs.Examples.{listedBytes, everyTypeBytes}
 use Rattle.ultra_reading.specs.Cases.{head}
@@ -56,9 +57,40 @@ everyTypeText =
     ++ ascii "other=7,16\n"
     ++ ascii "used=688\n"
 
+-- a platform of 56 bytes, and a kernel of partition type 2^32 + 3, which is not type 3
+abbrev pub shortBytes : List ℕ
+shortBytes =
+    (1 ∷ 0 ∷ 0 ∷ 0 ∷ 2 ∷ 0 ∷ 0 ∷ 0 ∷ [])
+    ++ (1 ∷ 0 ∷ 0 ∷ 0 ∷ 56 ∷ 0 ∷ 0 ∷ 0 ∷ [])
+    ++ (2 ∷ 0 ∷ 0 ∷ 0 ∷ 1 ∷ 0 ∷ 4 ∷ 0 ∷ [])
+    ++ (102 ∷ replicate 39 0)
+    ++ (2 ∷ 0 ∷ 0 ∷ 0 ∷ 80 ∷ 1 ∷ 0 ∷ 0 ∷ [])
+    ++ replicate 24 0
+    ++ (3 ∷ 0 ∷ 0 ∷ 0 ∷ 1 ∷ 0 ∷ 0 ∷ 0 ∷ [])
+    ++ replicate 40 0
+    ++ (47 ∷ replicate 255 0)
+
+abbrev pub shortText : List ℕ
+shortText =
+    ascii "version=1.0\n"
+    ++ ascii "attributes=2\n"
+    ++ ascii "platform=2\n"
+    ++ ascii "loader=1.4\n"
+    ++ ascii "name=f\n"
+    ++ ascii "rsdp=0\n"
+    ++ ascii "half=-\n"
+    ++ ascii "depth=-\n"
+    ++ ascii "dtb=-\n"
+    ++ ascii "smbios=-\n"
+    ++ ascii "kernel=0,0,0\n"
+    ++ ascii "partition=4294967299,0,0\n"
+    ++ ascii "path=/\n"
+    ++ ascii "used=400\n"
+
 pub record Examples : Type 0 where
   pub listed : listing listedBytes ≡ listedText
   pub everyType : listing everyTypeBytes ≡ everyTypeText
+  pub short : listing shortBytes ≡ shortText
   -- "H alone: HEADER at 8"
   pub refused : listing head ≡ ascii "refused=5,8\n"
   -- "bytes 1 to 31, 37, and 127 to 255", and their neighbours

@@ -144,8 +144,8 @@ textListed t out = pick (leb (length t) (length out)) (Done (length t), over t o
 unfoldable pub listed : List ℕ → List ℕ → Answer × List ℕ
 listed b out = textListed (listing b) out
 
--- ---- how long a listing can be: eight bytes for each byte of the room, and some for the lines of the whole. An output of that many bytes
--- is too short for no buffer (proved as `listing-fits`).
+-- ---- how long a listing can be: eight bytes for each byte of the room, and 64 for the lines of the whole. So an output of that many bytes
+-- is long enough for every buffer (proved as `listing-fits`).
 abbrev pub listingMost : ℕ
 listingMost = 524352
 

@@ -31,8 +31,13 @@ pub fn accepted(out: &mut [u8], buf: &[u8], used: u32) -> u32
 {
     let major = buf[0] as u64;
     let minor = buf[1] as u64;
-    let version = two(out, 0, b"version", b'.', major, minor);
-    let count = one(out, version, b"attributes", words::load_u32(buf, 4) as u64);
-    let end = crate::attributes::all(out, count, buf);
-    one(out, end, b"used", used as u64)
+    let after_version = two(out, 0, b"version", b'.', major, minor);
+    let after_count = one(
+        out,
+        after_version,
+        b"attributes",
+        words::load_u32(buf, 4) as u64,
+    );
+    let after_attributes = crate::attributes::all(out, after_count, buf);
+    one(out, after_attributes, b"used", used as u64)
 }

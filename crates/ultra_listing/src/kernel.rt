@@ -45,8 +45,8 @@ pub fn write(out: &mut [u8], to: u32, buf: &[u8], at: usize) -> u32
     requires { ⌜ at + 336 ≤ length (now buf) ⌝ }
     ensures { λ r. ⌜ (now (out .exit), r) ≡ puts (now (out .entry), to) (linesBytes (kernelLines (kernelAt (now (buf .entry)) at))) ⌝ }
 {
-    let first = bases(out, to, buf, at);
-    let second = partition(out, first, buf, at);
-    let third = guids(out, second, buf, at);
-    key_value_text::text_line(out, third, b"path", buf, at + 80, 256)
+    let after_bases = bases(out, to, buf, at);
+    let after_partition = partition(out, after_bases, buf, at);
+    let after_guids = guids(out, after_partition, buf, at);
+    key_value_text::text_line(out, after_guids, b"path", buf, at + 80, 256)
 }

@@ -31,26 +31,26 @@ fn depth(out: &mut [u8], to: u32, key: &[u8], buf: &[u8], at: usize, size: u32) 
     one(out, to, key, buf[at + 64] as u64)
 }
 
-// The members that are always there.
+// The members that are always there, whatever the size: they are those of a platform of any.
 fn leading(out: &mut [u8], to: u32, buf: &[u8], at: usize) -> u32
     requires { ⌜ at + 56 ≤ length (now buf) ⌝ }
     ensures { λ r. ⌜ (now (out .exit), r) ≡ puts (now (out .entry), to) (linesBytes (leadingLines (platformAt (now (buf .entry)) at 0))) ⌝ }
 {
-    let kind = one(out, to, b"platform", words::load_u32(buf, at + 8) as u64);
+    let after_kind = one(out, to, b"platform", words::load_u32(buf, at + 8) as u64);
     let major = words::load_u16(buf, at + 12) as u64;
     let minor = words::load_u16(buf, at + 14) as u64;
-    let loader = two(out, kind, b"loader", b'.', major, minor);
-    let name = key_value_text::text_line(out, loader, b"name", buf, at + 16, 32);
-    one(out, name, b"rsdp", words::load_u64(buf, at + 48))
+    let after_loader = two(out, after_kind, b"loader", b'.', major, minor);
+    let after_name = key_value_text::text_line(out, after_loader, b"name", buf, at + 16, 32);
+    one(out, after_name, b"rsdp", words::load_u64(buf, at + 48))
 }
 
 pub fn write(out: &mut [u8], to: u32, buf: &[u8], at: usize, size: u32) -> u32
     requires { ⌜ (at + size ≤ length (now buf)) × (56 ≤ size) ⌝ }
     ensures { λ r. ⌜ (now (out .exit), r) ≡ puts (now (out .entry), to) (linesBytes (platformLines (platformAt (now (buf .entry)) at size))) ⌝ }
 {
-    let rsdp = leading(out, to, buf, at);
-    let half = late(out, rsdp, b"half", buf, at, size, 56);
-    let levels = depth(out, half, b"depth", buf, at, size);
-    let dtb = late(out, levels, b"dtb", buf, at, size, 72);
-    late(out, dtb, b"smbios", buf, at, size, 80)
+    let after_rsdp = leading(out, to, buf, at);
+    let after_half = late(out, after_rsdp, b"half", buf, at, size, 56);
+    let after_depth = depth(out, after_half, b"depth", buf, at, size);
+    let after_dtb = late(out, after_depth, b"dtb", buf, at, size, 72);
+    late(out, after_dtb, b"smbios", buf, at, size, 80)
 }
