@@ -9,7 +9,7 @@ use crate::output::put;
 use crate::output::put_all;
 
 // The key and `=`.
-fn key(out: &mut [u8], to: u32, key: &[u8]) -> u32
+fn put_key(out: &mut [u8], to: u32, key: &[u8]) -> u32
     ensures { λ r. ⌜ (now (out .exit), r) ≡ puts (now (out .entry), to) (keyBytes (now (key .entry))) ⌝ }
 {
     let at = put_all(out, to, key);
@@ -20,7 +20,7 @@ fn key(out: &mut [u8], to: u32, key: &[u8]) -> u32
 pub fn numbers_line(out: &mut [u8], to: u32, key: &[u8], separator: u8, numbers: &[u64]) -> u32
     ensures { λ r. ⌜ (now (out .exit), r) ≡ puts (now (out .entry), to) (lineBytes (line (now (key .entry)) (Value.numbers separator (now (numbers .entry))))) ⌝ }
 {
-    let at = crate::lines::key(out, to, key);
+    let at = put_key(out, to, key);
     let end = crate::spelling::joined(out, at, separator, numbers);
     put(out, end, b'\n')
 }
@@ -37,7 +37,7 @@ pub fn text_line(
     requires { ⌜ start + width ≤ length (now bytes) ⌝ }
     ensures { λ r. ⌜ (now (out .exit), r) ≡ puts (now (out .entry), to) (lineBytes (line (now (key .entry)) (Value.text (textAt (now (bytes .entry)) start width)))) ⌝ }
 {
-    let at = crate::lines::key(out, to, key);
+    let at = put_key(out, to, key);
     let n = byte_layout::text_length(bytes, start, width);
     let end = crate::spelling::escaped(out, at, bytes, start, n);
     put(out, end, b'\n')
@@ -48,7 +48,7 @@ pub fn hex_line(out: &mut [u8], to: u32, key: &[u8], bytes: &[u8], start: usize,
     requires { ⌜ start + n ≤ length (now bytes) ⌝ }
     ensures { λ r. ⌜ (now (out .exit), r) ≡ puts (now (out .entry), to) (lineBytes (line (now (key .entry)) (Value.hex (bytesAt (now (bytes .entry)) start n)))) ⌝ }
 {
-    let at = crate::lines::key(out, to, key);
+    let at = put_key(out, to, key);
     let end = crate::spelling::hexadecimal(out, at, bytes, start, n);
     put(out, end, b'\n')
 }
@@ -56,7 +56,7 @@ pub fn hex_line(out: &mut [u8], to: u32, key: &[u8], bytes: &[u8], start: usize,
 pub fn absent_line(out: &mut [u8], to: u32, key: &[u8]) -> u32
     ensures { λ r. ⌜ (now (out .exit), r) ≡ puts (now (out .entry), to) (lineBytes (line (now (key .entry)) Value.absent)) ⌝ }
 {
-    let at = crate::lines::key(out, to, key);
+    let at = put_key(out, to, key);
     let end = put(out, at, b'-');
     put(out, end, b'\n')
 }

@@ -9,7 +9,7 @@ fn next(at: u32) -> u32
     if at < 4294967295 { at + 1 } else { at }
 }
 
-// One byte.
+// One byte; past the end it is only counted, so that an empty output measures.
 pub fn put(out: &mut [u8], to: u32, byte: u8) -> u32
     ensures { λ r. ⌜ (now (out .exit), r) ≡ put (now (out .entry), to) byte ⌝ }
 {

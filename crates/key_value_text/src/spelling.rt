@@ -7,15 +7,18 @@ ghost use Rattle.key_value_text.specs.Output.{puts};
 ghost use Rattle.key_value_text.specs.Spelling.{decimal, joined, hexDigit, hexPair, spelled, isEscaped, each};
 use crate::output::put;
 
-// A number, the leading digits first.
+// The digit 0, by which a number below 10 becomes its digit.
+const ZERO: u64 = 48;
+
+// A number. It calls itself for the digits before the last, since the leading ones come first.
 pub fn decimal(out: &mut [u8], to: u32, number: u64) -> u32
     ensures { λ r. ⌜ (now (out .exit), r) ≡ puts (now (out .entry), to) (decimal number) ⌝ }
 {
     if number < 10 {
-        return put(out, to, (48 + number) as u8);
+        return put(out, to, (ZERO + number) as u8);
     }
     let last = decimal(out, to, number / 10);
-    put(out, last, (48 + number % 10) as u8)
+    put(out, last, (ZERO + number % 10) as u8)
 }
 
 // Numbers with a separator between them.

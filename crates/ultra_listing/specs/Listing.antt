@@ -21,9 +21,12 @@ use Rattle.ultra_format.specs.declared.Answer.the-variants.{Done, Refused}
 use Rattle.ultra_reading.specs.Reading.{usedLength}
 
 -- ---- lines of each form
+abbrev pub comma : ℕ
+comma = code ","
+
 -- numbers with commas between them
 abbrev pub commas : String → List ℕ → Line
-commas k ns = line (ascii k) (numbers (code ",") ns)
+commas k ns = line (ascii k) (numbers comma ns)
 
 -- "version=1.0", "loader=1.4"
 abbrev pub dotted : String → ℕ → ℕ → Line
@@ -34,7 +37,7 @@ textual k t = line (ascii k) (text t)
 
 -- "an absent platform member prints `-`"
 abbrev pub member : List ℕ → Member → Line
-member k (present n) = line k (numbers (code ",") (n ∷ []))
+member k (present n) = line k (numbers comma (n ∷ []))
 member k absent = line k dash
 
 -- ---- the lines of an attribute, in the order of 01's listing and of its "Fields"

@@ -19,7 +19,7 @@ fn range(out: &mut [u8], to: u32, buf: &[u8], at: usize) -> u32
     three(out, to, b"range", address, size, kind)
 }
 
-// The `n` entries from `at` on.
+// The `n` entries from `at` on, few enough that `24 * i` fits.
 fn ranges(out: &mut [u8], to: u32, buf: &[u8], at: usize, n: usize) -> u32
     requires { ⌜ (at + 24 * n ≤ length (now buf)) × (n ≤ 4294967295) ⌝ }
     ensures { λ r. ⌜ (now (out .exit), r) ≡ puts (now (out .entry), to) (linesBytes (rangeLines (entriesAt (now (buf .entry)) at n))) ⌝ }

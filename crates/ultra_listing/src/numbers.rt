@@ -3,9 +3,10 @@ ghost use mathlib.Core.Path.{_≡_};
 ghost use mathlib.Core.List.{[], _∷_};
 ghost use Rattle.key_value_text.specs.Output.{puts};
 ghost use Rattle.key_value_text.specs.Lines.{Value, line, lineBytes};
+ghost use Rattle.ultra_listing.specs.Listing.{comma};
 
 pub fn one(out: &mut [u8], to: u32, key: &[u8], a: u64) -> u32
-    ensures { λ r. ⌜ (now (out .exit), r) ≡ puts (now (out .entry), to) (lineBytes (line (now (key .entry)) (Value.numbers 44 (a ∷ [])))) ⌝ }
+    ensures { λ r. ⌜ (now (out .exit), r) ≡ puts (now (out .entry), to) (lineBytes (line (now (key .entry)) (Value.numbers comma (a ∷ [])))) ⌝ }
 {
     let numbers = [a];
     key_value_text::numbers_line(out, to, key, b',', &numbers)
@@ -19,7 +20,7 @@ pub fn two(out: &mut [u8], to: u32, key: &[u8], separator: u8, a: u64, b: u64) -
 }
 
 pub fn three(out: &mut [u8], to: u32, key: &[u8], a: u64, b: u64, c: u64) -> u32
-    ensures { λ r. ⌜ (now (out .exit), r) ≡ puts (now (out .entry), to) (lineBytes (line (now (key .entry)) (Value.numbers 44 (a ∷ b ∷ c ∷ [])))) ⌝ }
+    ensures { λ r. ⌜ (now (out .exit), r) ≡ puts (now (out .entry), to) (lineBytes (line (now (key .entry)) (Value.numbers comma (a ∷ b ∷ c ∷ [])))) ⌝ }
 {
     let numbers = [a, b, c];
     key_value_text::numbers_line(out, to, key, b',', &numbers)

@@ -8,8 +8,8 @@ use denote.Ref.{now}
 use Rattle.key_value_text.proofs.lines.absent_line.Statement.{statement}
 use Rattle.key_value_text.proofs.lines.absent_line.Tie as tie
 
-key-requires : tie.Need-key-requires
-key-requires c κs = search needs
+put-key-requires : tie.Need-put-key-requires
+put-key-requires c κs = search needs
 
 put-requires : tie.Need-put-requires
 put-requires c κs = search needs
@@ -27,8 +27,8 @@ returns c =
     let v = p .before .before .before .before in
     let k = v .before .before .before .before in
     let a = k .before .before .before .before .args in
-    line-put _ _ _ _ (now (a .key)) absent (k .key .ensures) (v .put .ensures ∙ sym (puts-one _ 45)) (p .put2 .ensures)
+    line-put _ _ _ _ (now (a .key)) absent (k .put-key .ensures) (v .put .ensures ∙ sym (puts-one _ 45)) (p .put2 .ensures)
 
 pub absent-line-spec : {M : Type 1} → statement M
 absent-line-spec =
-    tie.close (tie.spec key-requires put-requires put-requires-2 same-length returns)
+    tie.close (tie.spec put-key-requires put-requires put-requires-2 same-length returns)

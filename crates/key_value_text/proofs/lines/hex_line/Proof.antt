@@ -8,8 +8,8 @@ use denote.Ref.{now}
 use Rattle.key_value_text.proofs.lines.hex_line.Statement.{statement}
 use Rattle.key_value_text.proofs.lines.hex_line.Tie as tie
 
-key-requires : tie.Need-key-requires
-key-requires c κs = search needs
+put-key-requires : tie.Need-put-key-requires
+put-key-requires c κs = search needs
 
 hexadecimal-requires : tie.Need-hexadecimal-requires
 hexadecimal-requires c κs = search needs
@@ -27,8 +27,8 @@ returns c =
     let v = p .before .before .before .before in
     let k = v .before .before .before .before in
     let a = k .before .before .before .before .before .args in
-    line-put _ _ _ _ (now (a .key)) (hex (bytesAt (now (a .bytes)) (a .start) (a .n))) (k .key .ensures) (v .hexadecimal .ensures) (p .put .ensures)
+    line-put _ _ _ _ (now (a .key)) (hex (bytesAt (now (a .bytes)) (a .start) (a .n))) (k .put-key .ensures) (v .hexadecimal .ensures) (p .put .ensures)
 
 pub hex-line-spec : {M : Type 1} → statement M
 hex-line-spec =
-    tie.close (tie.spec key-requires hexadecimal-requires put-requires same-length returns)
+    tie.close (tie.spec put-key-requires hexadecimal-requires put-requires same-length returns)

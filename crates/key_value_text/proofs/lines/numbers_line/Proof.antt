@@ -7,8 +7,8 @@ use denote.Ref.{now}
 use Rattle.key_value_text.proofs.lines.numbers_line.Statement.{statement}
 use Rattle.key_value_text.proofs.lines.numbers_line.Tie as tie
 
-key-requires : tie.Need-key-requires
-key-requires c κs = search needs
+put-key-requires : tie.Need-put-key-requires
+put-key-requires c κs = search needs
 
 joined-requires : tie.Need-joined-requires
 joined-requires c κs = search needs
@@ -26,8 +26,8 @@ returns c =
     let v = p .before .before .before .before in
     let k = v .before .before .before .before in
     let a = k .before .before .before .before .before .args in
-    line-put _ _ _ _ (now (a .key)) (numbers (a .separator) (now (a .numbers))) (k .key .ensures) (v .joined .ensures) (p .put .ensures)
+    line-put _ _ _ _ (now (a .key)) (numbers (a .separator) (now (a .numbers))) (k .put-key .ensures) (v .joined .ensures) (p .put .ensures)
 
 pub numbers-line-spec : {M : Type 1} → statement M
 numbers-line-spec =
-    tie.close (tie.spec key-requires joined-requires put-requires same-length returns)
+    tie.close (tie.spec put-key-requires joined-requires put-requires same-length returns)

@@ -14,8 +14,8 @@ use denote.Ref.{now}
 use Rattle.key_value_text.proofs.lines.text_line.Statement.{statement}
 use Rattle.key_value_text.proofs.lines.text_line.Tie as tie
 
-key-requires : tie.Need-key-requires
-key-requires c κs = search needs
+put-key-requires : tie.Need-put-key-requires
+put-key-requires c κs = search needs
 
 text-length-requires : tie.Need-text-length-requires
 text-length-requires c κs = search needs
@@ -39,11 +39,11 @@ returns c =
     let a = k .before .before .before .before .before .args in
     let t : bytesAt (now (a .bytes)) (a .start) (n .text-length .result) ≡ textAt (now (a .bytes)) (a .start) (a .width) =
     ap (bytesAt (now (a .bytes)) (a .start)) (n .text-length .ensures .0) ∙ text-bytes (now (a .bytes)) (a .start) (a .width) in
-    line-put _ _ _ _ (now (a .key)) (text (textAt (now (a .bytes)) (a .start) (a .width))) (k .key .ensures)
-    (v .escaped .ensures ∙ ap (λ (l : List ℕ). puts (k .key .last .0, k .key .result) (each spelled l)) t)
+    line-put _ _ _ _ (now (a .key)) (text (textAt (now (a .bytes)) (a .start) (a .width))) (k .put-key .ensures)
+    (v .escaped .ensures ∙ ap (λ (l : List ℕ). puts (k .put-key .last .0, k .put-key .result) (each spelled l)) t)
     (p .put .ensures)
 
 pub text-line-spec : {M : Type 1} → statement M
 text-line-spec =
     tie.close
-    (tie.spec key-requires text-length-requires escaped-requires put-requires same-length returns)
+    (tie.spec put-key-requires text-length-requires escaped-requires put-requires same-length returns)

@@ -1,12 +1,12 @@
--- `lines::key` meets its contract.
+-- `lines::put_key` meets its contract.
 -- Assumes nothing.
 use borrow.Author.Needs.{needs}
 use denote.Ref.{now}
 use Rattle.key_value_text.proofs.Puts.{byte-behind}
-use Rattle.key_value_text.proofs.lines.key.Statement.{statement}
-use Rattle.key_value_text.proofs.lines.key.Tie as tie
-use Rattle.key_value_text.proofs.lines.key.Reads as reads
-use Rattle.key_value_text.proofs.lines.key.Lts as lts
+use Rattle.key_value_text.proofs.lines.put_key.Statement.{statement}
+use Rattle.key_value_text.proofs.lines.put_key.Tie as tie
+use Rattle.key_value_text.proofs.lines.put_key.Reads as reads
+use Rattle.key_value_text.proofs.lines.put_key.Lts as lts
 use Rattle.key_value_text.proofs.output.put.Reads as put-reads
 use Rattle.key_value_text.proofs.output.put_all.Reads as put-all-reads
 
@@ -30,5 +30,5 @@ returns c =
     let a = q .before .before .before .before .args in
     byte-behind _ _ _ (now (a .key)) 61 (q .put-all .ensures) (p .put .ensures)
 
-pub key-spec : {M : Type 1} → statement M
-key-spec = tie.close (tie.spec put-all-requires put-requires same-length returns)
+pub put-key-spec : {M : Type 1} → statement M
+put-key-spec = tie.close (tie.spec put-all-requires put-requires same-length returns)
