@@ -10,7 +10,7 @@ help:
 # The listing of one context, by the proved program.
 list:
 	@test -f '$(CONTEXT)' || { echo 'usage: make list CONTEXT=samples/listing.bin (a file that is there)' >&2; exit 2; }
-	@$(MAKE) --no-print-directory list-program
+	@$(MAKE) -s --no-print-directory list-program >&2
 	@target/bin/list_context <'$(CONTEXT)'
 
 list-program: target/bin/list_context
