@@ -3,7 +3,7 @@
 # What a new user types first.
 help:
 	@echo 'make list CONTEXT=samples/listing.bin   print the listing of a context'
-	@echo 'make test                               prove everything, try the wrong programs, run every test (about 40 minutes)'
+	@echo 'make test                               prove everything, try the wrong programs, run every test (up to 40 minutes)'
 	@echo 'make archive                            target/staticlib/libultra.a, for C; make install PREFIX=.. puts it in place'
 	@echo 'make check                              the proofs alone, without starting from nothing'
 
