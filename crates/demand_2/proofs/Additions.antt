@@ -30,7 +30,7 @@ use Rattle.ultra_format.specs.Plain.{writtenSize}
 use Rattle.ultra_format.proofs.Attributes.{width-attribute}
 use Rattle.byte_layout.proofs.Cells.{length-filled}
 use Rattle.byte_layout.proofs.FieldLaws.{length-cells}
-use Rattle.demand_2.specs.Calls.{WideTyped, NarrowTyped, ArrayTyped, PlatformTyped, NumbersTyped, AdditionTyped}
+use Rattle.demand_2.specs.Arguments.{WideTyped, NarrowTyped, ArrayTyped, PlatformTyped, NumbersTyped, AdditionTyped}
 
 pub fits-append : (xs ys : List Field) → Fits xs → Fits ys → Fits (xs ++ ys)
 unfolding Fits
@@ -97,7 +97,7 @@ late-fits s r y =
     fits-append _ _ (fits-append _ _ (fits-append _ _ (fits-append _ _ (wide-fits (r .«higher_half_base») (y .higherHalfBase)) (depth-fits (r .depth) (y .depth)))
     (wide-fits (r .dtb) (y .dtb))) (wide-fits (r .smbios) (y .smbios))) (padding-fits (s - 88))
 
-entries-fit : (ns : List ℕ) → NumbersTyped ns → Fits (entriesFields (entriesGiven ns))
+pub entries-fit : (ns : List ℕ) → NumbersTyped ns → Fits (entriesFields (entriesGiven ns))
 unfolding Fits entriesFields entriesGiven
 entries-fit [] y = tt
 entries-fit (a ∷ []) y = tt

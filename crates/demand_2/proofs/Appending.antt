@@ -34,7 +34,7 @@ use Rattle.ultra_acceptance.proofs.Acceptance.{complete}
 use Rattle.ultra_building.specs.Building.{counted, withAttribute, addedAt, added}
 use Rattle.ultra_building.proofs.Placements.{Admits, admits}
 use Rattle.ultra_building.proofs.Adding.{length-counted, faultOn, added-held}
-use Rattle.demand_2.specs.Calls.{AdditionTyped}
+use Rattle.demand_2.specs.Arguments.{AdditionTyped}
 use Rattle.demand_2.specs.Demand2.{Appended}
 use Rattle.demand_2.proofs.Additions.{fits-append, given-meets, given-width, given-length, given-type, attribute-fits}
 

@@ -15,18 +15,23 @@ use Rattle.ultra_format.specs.Refusals.{SHORT}
 use Rattle.ultra_format.specs.Answers.{refused, numberOf}
 use Rattle.ultra_format.specs.Layouts.{roomOf}
 use Rattle.ultra_format.specs.Decoding.{pick}
-use Rattle.ultra_format.specs.Additions.{typeGiven, sizeGiven, additionFault, bodyGiven}
+use Rattle.ultra_format.specs.Contexts.{Body, typeOf}
+use Rattle.ultra_format.specs.Plain.{writtenSize}
+use Rattle.ultra_format.specs.Additions.{bodyGiven, formed, givenFault}
 use Rattle.ultra_format.specs.declared.Answer.{Answer}
 use Rattle.ultra_format.specs.declared.Answer.the-variants.{Done, Refused}
-use Rattle.ultra_building.specs.Building.{emptyHead, begun, placement, addedAt, added, addedMembers}
-use Rattle.demand_2.specs.Calls.{Call, run, AllTyped}
-use Rattle.demand_2.specs.Calls.{Call.begin, Call.add, Call.read, Call.askUsed, Call.step, Call.askAttribute, Call.askStart, Call.askPart, Call.copyMap, Call.askLine, Call.locateLine, Call.askModule}
+use Rattle.ultra_building.specs.Building.{emptyHead, begun, placement, addedAt, addedMembers}
+use Rattle.demand_2.specs.Calls.{membersFormed, membersBody, Call, run}
+use Rattle.demand_2.specs.CallsFromC.{AnyCall, inRattle, runAny}
+use Rattle.demand_2.specs.Arguments.{AllTyped}
+use Rattle.demand_2.specs.Calls.{Call.begin, Call.add, Call.addMembers, Call.read, Call.step, Call.askAttribute, Call.askStart, Call.askPart, Call.copyMap, Call.copyMapBytes, Call.askLine, Call.locateLine, Call.askModule, Call.list, Call.askListingLength}
 use Rattle.demand_2.specs.Calls.{Reply.answer}
-use Rattle.demand_2.specs.Model.{contextGiven, listAfterAll, replyTo}
+use Rattle.demand_2.specs.Model.{contextGiven, listAfterAll, anyReply}
 use Rattle.demand_2.specs.Demand2.{Follows, Undetermined, StepsThrough, ReadsBack, bufferNow, listNow, Demand2}
 use Rattle.demand_2.proofs.Appending.{appends}
-use Rattle.demand_2.proofs.Following.{Keeps, length-given, begun-is, begin-follows, same-room, follows-all}
-use Rattle.demand_2.proofs.Replies.{held-two, steps-through, replies-by-list}
+use Rattle.demand_2.proofs.Following.{Keeps, length-given, begun-is, begin-follows, crosses, same-room, follows-all}
+use Rattle.demand_2.proofs.GivenMembers.{as-record}
+use Rattle.demand_2.proofs.Replies.{held-two, steps-through, any-reply}
 use Rattle.demand_2.proofs.ReadingBack.{reads-back}
 use Rattle.demand_2.proofs.Rebuilding.{rebuilds}
 
@@ -53,7 +58,7 @@ begun-long b e = go (leb 8 (roomOf b)) refl e
     go false q w = absurd (let z : _≡_ {A = ℕ} 0 1 = cc in omega arith)
 
 -- ---- after any calls behind it
-module _ (b : List ℕ) (ks : List Call) (e : begun b .0 ≡ Done 8) (y : AllTyped ks) where
+module _ (b : List ℕ) (ks : List AnyCall) (e : begun b .0 ≡ Done 8) (y : AllTyped ks) where
   -- the buffer is as long as it was, and keeps to the list
   kept : Keeps (bufferNow b ks) (listNow b ks) × (length (bufferNow b ks) ≡ length b)
   kept =
@@ -70,41 +75,48 @@ module _ (b : List ℕ) (ks : List Call) (e : begun b .0 ≡ Done 8) (y : AllTyp
   reads : 2 ≤ length (listNow b ks) → ReadsBack (bufferNow b ks) (listNow b ks)
   reads h = reads-back (bufferNow b ks) (listNow b ks) (held-two (bufferNow b ks) (listNow b ks) follows (omega (arith, length-given (listNow b ks)))) (kept .0 .added)
 
-answers : (b : List ℕ) (ks : List Call) (k : Call) → begun b .0 ≡ Done 8 → AllTyped ks
-    → (Undetermined (roomOf b) (contextGiven (listNow b ks)) k → ⊥)
-    → run k (bufferNow b ks) .0 ≡ replyTo (roomOf b) k (listNow b ks)
+answers : (b : List ℕ) (ks : List AnyCall) (k : AnyCall) → begun b .0 ≡ Done 8 → AllTyped ks
+    → (Undetermined (roomOf b) (contextGiven (listNow b ks)) (inRattle k) → ⊥)
+    → runAny k (bufferNow b ks) .0 ≡ anyReply (roomOf b) k (listNow b ks)
 answers b ks k e y n =
     let q = same-room (bufferNow b ks) b (kept b ks e y .1) in
-    replies-by-list (bufferNow b ks) (listNow b ks) (follows b ks e y) k (λ u. n (subst (λ (r : ℕ). Undetermined r (contextGiven (listNow b ks)) k) q u))
-    ∙ ap (λ (r : ℕ). replyTo r k (listNow b ks)) q
+    any-reply (bufferNow b ks) (listNow b ks) (follows b ks e y) k (λ u. n (subst (λ (r : ℕ). Undetermined r (contextGiven (listNow b ks)) (inRattle k)) q u))
+    ∙ ap (λ (r : ℕ). anyReply r k (listNow b ks)) q
 
 -- ---- a refusal changes nothing
 same : (a b : Answer) → answer a ≡ answer b → a ≡ b
 same a b e = cc
 
+kept-members : (b : List ℕ) (f : Bool) (x : Body) (a : Answer) → answer (addedMembers b f x .0) ≡ answer a → (numberOf a ≡ 0 → ⊥) → addedMembers b f x .1 ≡ b
+unfolding addedMembers
+kept-members b f x a e n = go (placement b (typeOf x) (givenFault f x) (writtenSize x)) e
+  where
+    go : (p : Answer) → answer (addedAt b x p .0) ≡ answer a → addedAt b x p .1 ≡ b
+    go (Done v) w = absurd (n (ap numberOf (same a (Done (v + writtenSize x)) (sym w))))
+    go (Refused r) w = refl
+
 refusals : (b : List ℕ) (k : Call) (a : Answer) → run k b .0 ≡ answer a → (numberOf a ≡ 0 → ⊥) → run k b .1 ≡ b
-unfolding run begun addedMembers
+unfolding run begun
 refusals b begin a e n = go (leb 8 (roomOf b)) e
   where
     go : (t : Bool) → answer (pick {X = Answer × List ℕ} t (Done 8, over emptyHead b) (refused SHORT 0, b) .0) ≡ answer a
         → pick {X = Answer × List ℕ} t (Done 8, over emptyHead b) (refused SHORT 0, b) .1 ≡ b
     go true w = absurd (n (ap numberOf (same a (Done 8) (sym w))))
     go false w = refl
-refusals b (add g) a e n = go (placement b (typeGiven g) (additionFault g) (sizeGiven g)) e
-  where
-    go : (p : Answer) → answer (addedAt b (bodyGiven g) p .0) ≡ answer a → addedAt b (bodyGiven g) p .1 ≡ b
-    go (Done v) w = absurd (n (ap numberOf (same a (Done (v + sizeGiven g)) (sym w))))
-    go (Refused r) w = refl
+refusals b (add g) a e n = kept-members b (formed g) (bodyGiven g) a e n
+refusals b (addMembers m) a e n = kept-members b (membersFormed m) (membersBody m) a e n
 refusals b read a e n = refl
-refusals b (askUsed fewest) a e n = refl
 refusals b (step k) a e n = refl
 refusals b (askAttribute i) a e n = refl
 refusals b (askStart i) a e n = refl
 refusals b (askPart i) a e n = refl
 refusals b (copyMap out) a e n = refl
+refusals b (copyMapBytes out) a e n = refl
 refusals b askLine a e n = refl
 refusals b locateLine a e n = refl
 refusals b (askModule m) a e n = refl
+refusals b (list out) a e n = refl
+refusals b askListingLength a e n = refl
 
 pub demand-2 : Demand2
 demand-2 =
@@ -115,6 +127,8 @@ demand-2 =
       sameLength = λ b ks e y. kept b ks e y .1;
       answers = answers;
       steps = steps;
+      crosses = crosses;
+      members = as-record;
       refusals = refusals;
       appends = appends;
       readsBack = reads;

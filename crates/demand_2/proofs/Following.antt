@@ -1,6 +1,7 @@
 -- After every call the buffer is as the list says.
 -- Assumes nothing.
 use Prim.Native.Nat.{ℕ, zero, suc, _+_, _≤_, _<_, min}
+use mathlib.Core.Bool.{Bool}
 use mathlib.Core.Path.{_≡_, refl, sym, ap, _∙_, subst}
 use mathlib.Core.List.{List, [], _∷_, _++_}
 use native.Mathlib.Omega.{arith}
@@ -10,23 +11,32 @@ use borrow.Author.Tests.{le-leb}
 use Rattle.byte_layout.specs.Fields.{cells, filled, Fits}
 use Rattle.byte_layout.specs.Stored.{over}
 use Rattle.ultra_format.specs.Answers.{orRefused}
-use Rattle.ultra_format.specs.Contexts.{typeOf, Attribute, Context, total, used}
+use Rattle.ultra_format.specs.Contexts.{Body, typeOf, Attribute, Context, total, used}
 use Rattle.ultra_format.specs.Layouts.{attributesFields, layout, Opens, roomOf, written}
 use Rattle.ultra_format.specs.Rules.{Meets}
 use Rattle.ultra_format.specs.Decoding.{storedType, storedCount, typesBefore}
-use Rattle.ultra_format.specs.Additions.{Addition, attributeGiven, additionFault, sizeGiven, bodyGiven}
+use Rattle.ultra_format.specs.Plain.{writtenSize}
+use Rattle.ultra_format.specs.Additions.{Addition, attributeGiven, additionFault, sizeGiven, bodyGiven, formed, givenFault}
 use Rattle.ultra_format.specs.Additions.{Addition.addCommandLine}
 use Rattle.ultra_format.specs.declared.Answer.the-variants.{Done}
 use Rattle.ultra_format.proofs.Attributes.{at, sized, Says, opens-says}
 use Rattle.byte_layout.proofs.Cells.{at-opens}
 use Rattle.ultra_acceptance.specs.Acceptance.{HeldBy}
 use Rattle.ultra_acceptance.proofs.Acceptance.{complete}
-use Rattle.ultra_building.specs.Building.{emptyHead, begun, addedAt, added}
-use Rattle.ultra_building.proofs.Adding.{faultOn, added-held}
-use Rattle.demand_2.specs.Calls.{Call, run, after, AdditionTyped, Typed, AllTyped}
-use Rattle.demand_2.specs.Calls.{Call.begin, Call.add, Call.read, Call.askUsed, Call.step, Call.askAttribute, Call.askStart, Call.askPart, Call.copyMap, Call.askLine, Call.locateLine, Call.askModule}
-use Rattle.demand_2.specs.Model.{attributesGiven, contextGiven, typesBehind, refusalOf, appended, listAfter, listAfterAll}
+use Rattle.ultra_building.specs.Building.{emptyHead, begun, placementFault, addedAt, addedMembers, added}
+use Rattle.ultra_building.proofs.Adding.{membersFaultOn, members-held, faultOn}
+use Rattle.ultra_building.proofs.Placements.{Admits, admits}
+use Rattle.demand_2.specs.Calls.{Members, membersFormed, membersBody, Call, Reply, run}
+use Rattle.demand_2.specs.Calls.{Call.begin, Call.add, Call.addMembers, Call.read, Call.step, Call.askAttribute, Call.askStart, Call.askPart, Call.copyMap, Call.copyMapBytes, Call.askLine, Call.locateLine, Call.askModule, Call.list, Call.askListingLength}
+use Rattle.demand_2.specs.CallsFromC.{CallFromC, runFromC, asked, replyCrossed, AnyCall, inRattle, runAny, after}
+use Rattle.demand_2.specs.CallsFromC.{CallFromC.ultraRead, CallFromC.ultraStep, CallFromC.ultraAttribute, CallFromC.ultraCopyMap, CallFromC.ultraCommandLine, CallFromC.ultraModuleHolding, CallFromC.ultraBegin}
+use Rattle.demand_2.specs.CallsFromC.{CallFromC.ultraAddPlatform, CallFromC.ultraAddKernel, CallFromC.ultraAddMap, CallFromC.ultraAddModule, CallFromC.ultraAddCommandLine, CallFromC.ultraAddFramebuffer}
+use Rattle.demand_2.specs.CallsFromC.{AnyCall.fromRattle, AnyCall.fromC}
+use Rattle.demand_2.specs.Arguments.{AdditionTyped, MembersTyped, AllTyped}
+use Rattle.demand_2.specs.Model.{attributesGiven, contextGiven, typesBehind, membersRefusal, refusalOf, giving, appended, listAfter, listAfterAll}
 use Rattle.demand_2.specs.Demand2.{Follows}
+use Rattle.demand_2.proofs.Arguments.{Typed, typed-first, typed-rest}
+use Rattle.demand_2.proofs.GivenMembers.{RecordOf, record-of, same-run}
 use Rattle.demand_2.proofs.Appending.{all-more, says-type, sound, left-length, written-left, held-more, total-more}
 
 -- ---- the list
@@ -83,15 +93,15 @@ module _ (d : List ℕ) (gs : List Addition) (f : Follows d gs) where
       types-behind d 0 gs (λ i l. rw zero-add (says-type d (contextGiven gs) says-given i (omega (arith, length-given gs))))
       ∙ ap (typesBefore d) (zero-add (length gs) ∙ sym (f .counted))
 
-  same-fault : (g : Addition) → faultOn d (contextGiven gs) g ≡ refusalOf (roomOf d) gs g
-  same-fault g = rw types-given
+  same-fault : (f : Bool) (x : Body) → membersFaultOn d (contextGiven gs) f x ≡ membersRefusal (roomOf d) gs f x
+  same-fault f x = rw types-given
 
   pub long : 8 ≤ length d
   long = omega (arith, f .held .0 .within)
 
   -- what an add does, by the refusal of the list
-  pub added-is : (g : Addition) → added d g ≡ addedAt d (bodyGiven g) (orRefused (refusalOf (roomOf d) gs g) (used (contextGiven gs)) (Done (used (contextGiven gs))))
-  added-is g = added-held d (contextGiven gs) g (f .held) ∙ rw (same-fault g)
+  pub added-is : (ok : Bool) (x : Body) → addedMembers d ok x ≡ addedAt d x (orRefused (membersRefusal (roomOf d) gs ok x) (used (contextGiven gs)) (Done (used (contextGiven gs))))
+  added-is ok x = members-held d (contextGiven gs) ok x (f .held) ∙ rw (same-fault ok x)
 
 -- ---- a beginning
 empty-meets : (room : ℕ) → 8 ≤ room → Meets 0 room (contextGiven [])
@@ -143,16 +153,20 @@ module _ (d : List ℕ) (gs : List Addition) (h : Keeps d gs) where
   abbrev now : Context
   now = contextGiven gs
 
+  -- what is not refused has no fault of 12 to 16
+  unfaulty : (f : Bool) (x : Body) → membersRefusal (roomOf d) gs f x ≡ 0 → givenFault f x ≡ 0
+  unfaulty f x e = admits (typesBehind [] gs) (roomOf d) (used now) (typeOf x) (givenFault f x) (writtenSize x) e .sound
+
   add-follows : (g : Addition) → AdditionTyped g → Keeps (added d g .1) (appended (refusalOf (roomOf d) gs g) gs g) × (length (added d g .1) ≡ length d)
   unfolding attributesGiven
-  add-follows g y = rw (added-is d gs (h .follows) g) (go (refusalOf (roomOf d) gs g) refl)
+  add-follows g y = rw (added-is d gs (h .follows) (formed g) (bodyGiven g)) (go (refusalOf (roomOf d) gs g) refl)
     where
       go : (f : ℕ) → refusalOf (roomOf d) gs g ≡ f
           → Keeps (addedAt d (bodyGiven g) (orRefused f (used now) (Done (used now))) .1) (appended f gs g) × (length (addedAt d (bodyGiven g) (orRefused f (used now) (Done (used now))) .1) ≡ length d)
       go (suc f) e = (h, refl)
       go zero e =
           let k = h .follows .held in
-          let z = same-fault d gs (h .follows) g ∙ e in
+          let z = same-fault d gs (h .follows) (formed g) (bodyGiven g) ∙ e in
           let q = given-append gs (g ∷ []) in (
             record {
               follows = held-follows _ (gs ++ (g ∷ [])) (rw q (held-more d now g k y z)) (rw q (written-left d now g k y z (h .follows .bytes)));
@@ -161,29 +175,69 @@ module _ (d : List ℕ) (gs : List Addition) (h : Keeps d gs) where
             left-length d now g k y z,
           )
 
+  -- members that are not refused are the record that has them
+  members-follow : (m : Members) → MembersTyped m
+      → Keeps (run (addMembers m) d .1) (listAfter (roomOf d) (addMembers m) gs) × (length (run (addMembers m) d .1) ≡ length d)
+  unfolding run
+  members-follow m y = go (membersRefusal (roomOf d) gs (membersFormed m) (membersBody m)) refl
+    where
+      go : (f : ℕ) → membersRefusal (roomOf d) gs (membersFormed m) (membersBody m) ≡ f
+          → Keeps (run (addMembers m) d .1) (appended f gs (giving (membersBody m))) × (length (run (addMembers m) d .1) ≡ length d)
+      go (suc f) e = rw (added-is d gs (h .follows) (membersFormed m) (membersBody m), e) (h, refl)
+      go zero e =
+          let g = giving (membersBody m) in
+          let r = record-of m y (unfaulty (membersFormed m) (membersBody m) e) in
+          let q : refusalOf (roomOf d) gs g ≡ 0 = (λ i. membersRefusal (roomOf d) gs (sym (r .forms) i) (r .body i)) ∙ e in
+          subst (λ (x : Reply × List ℕ). Keeps (x .1) (gs ++ (g ∷ [])) × (length (x .1) ≡ length d)) (sym (same-run d m r)) (rw q at (add-follows g (r .typed)))
+
 pub step-follows : (d : List ℕ) (gs : List Addition) (k : Call) → Keeps d gs → Typed k → Keeps (run k d .1) (listAfter (roomOf d) k gs) × (length (run k d .1) ≡ length d)
 unfolding run
 step-follows d gs begin h y = begin-follows d (long d gs (h .follows))
-step-follows d gs (add g) h y = add-follows d gs h g y
+step-follows d gs (add g) h y = add-follows d gs h g (y .records g refl)
+step-follows d gs (addMembers m) h y = members-follow d gs h m (y .members m refl)
 step-follows d gs read h y = (h, refl)
-step-follows d gs (askUsed fewest) h y = (h, refl)
 step-follows d gs (step k) h y = (h, refl)
 step-follows d gs (askAttribute i) h y = (h, refl)
 step-follows d gs (askStart i) h y = (h, refl)
 step-follows d gs (askPart i) h y = (h, refl)
 step-follows d gs (copyMap out) h y = (h, refl)
+step-follows d gs (copyMapBytes out) h y = (h, refl)
 step-follows d gs askLine h y = (h, refl)
 step-follows d gs locateLine h y = (h, refl)
 step-follows d gs (askModule a) h y = (h, refl)
+step-follows d gs (list out) h y = (h, refl)
+step-follows d gs askListingLength h y = (h, refl)
+
+-- ---- toward C
+pub crosses : (b : List ℕ) (k : CallFromC) → runFromC k b ≡ (replyCrossed (run (asked k) b .0), run (asked k) b .1)
+unfolding run runFromC bodyGiven
+crosses b ultraRead = refl
+crosses b (ultraStep index offset) = refl
+crosses b (ultraAttribute index) = refl
+crosses b (ultraCopyMap out) = refl
+crosses b ultraCommandLine = refl
+crosses b (ultraModuleHolding address) = refl
+crosses b ultraBegin = refl
+crosses b (ultraAddPlatform kind major minor name rsdp base depth dtb smbios) = refl
+crosses b (ultraAddKernel physical virtual size partitionType disk partition diskIndex partitionIndex path) = refl
+crosses b (ultraAddMap entries) = refl
+crosses b (ultraAddModule kind name address size) = refl
+crosses b (ultraAddCommandLine text) = refl
+crosses b (ultraAddFramebuffer width height pitch bpp format address) = refl
+
+pub same-buffer : (k : AnyCall) (b : List ℕ) → runAny k b .1 ≡ run (inRattle k) b .1
+same-buffer (fromRattle k) b = refl
+same-buffer (fromC k) b = ap (λ (r : Reply × List ℕ). r .1) (crosses b k)
 
 -- ---- calls in a row
 pub same-room : (d b : List ℕ) → length d ≡ length b → roomOf d ≡ roomOf b
 same-room d b e = ap (λ (n : ℕ). min n 65536) e
 
-pub follows-all : (ks : List Call) (d : List ℕ) (gs : List Addition) → Keeps d gs → AllTyped ks → Keeps (after ks d) (listAfterAll (roomOf d) ks gs) × (length (after ks d) ≡ length d)
-unfolding after listAfterAll AllTyped
+pub follows-all : (ks : List AnyCall) (d : List ℕ) (gs : List Addition) → Keeps d gs → AllTyped ks → Keeps (after ks d) (listAfterAll (roomOf d) ks gs) × (length (after ks d) ≡ length d)
+unfolding after listAfterAll
 follows-all [] d gs h y = (h, refl)
 follows-all (k ∷ ks) d gs h y =
-    let s = step-follows d gs k h (y .0) in
-    let r = follows-all ks (run k d .1) (listAfter (roomOf d) k gs) (s .0) (y .1) in
-    (subst (λ (n : ℕ). Keeps (after ks (run k d .1)) (listAfterAll n ks (listAfter (roomOf d) k gs))) (same-room (run k d .1) d (s .1)) (r .0), r .1 ∙ s .1)
+    let e = runAny k d .1 in
+    let s = rw (← (same-buffer k d)) at (step-follows d gs (inRattle k) h (typed-first k ks y)) in
+    let r = follows-all ks e (listAfter (roomOf d) (inRattle k) gs) (s .0) (typed-rest k ks y) in
+    (subst (λ (n : ℕ). Keeps (after ks e) (listAfterAll n ks (listAfter (roomOf d) (inRattle k) gs))) (same-room e d (s .1)) (r .0), r .1 ∙ s .1)

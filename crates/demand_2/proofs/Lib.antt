@@ -1,10 +1,12 @@
+pub mod Arguments
 pub mod Additions
 pub mod Appending
+pub mod Records
+pub mod GivenMembers
 pub mod Following
 pub mod Replies
-pub mod Records
 pub mod ReadingBack
 pub mod Rebuilding
 pub mod Demand2
+pub mod EveryCall
 pub mod Witness
-pub mod TowardC

@@ -11,11 +11,11 @@ use Rattle.ultra_format.specs.Additions.{Addition.addCommandLine}
 use Rattle.ultra_format.proofs.Attributes.{body-fits}
 use Rattle.demand_3.specs.Demand3.{Held}
 use Rattle.demand_3.proofs.Demand3.{demand-3}
-use Rattle.demand_2.specs.Model.{attributesGiven, contextGiven}
+use Rattle.demand_2.specs.Model.{attributesGiven, contextGiven, giving}
 use Rattle.demand_2.specs.Demand2.{recordBack, recordAt, ReadsBack}
 use Rattle.demand_2.proofs.Additions.{given-type}
 use Rattle.demand_2.proofs.Following.{Added, length-given}
-use Rattle.demand_2.proofs.Records.{giving, record-answered, giving-given}
+use Rattle.demand_2.proofs.Records.{record-answered, giving-given}
 
 -- ---- any context without a type from 7 up: the record answered is the one that gives the body
 pub record-at : (b : List ℕ) (c : Context) → Held b c → (i : ℕ) → i < count c → typeOf (bodyAt c i) < 7 → recordAt b i ≡ giving (bodyAt c i) ∷ []

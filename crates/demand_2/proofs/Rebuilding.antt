@@ -18,7 +18,7 @@ use Rattle.ultra_format.specs.Layouts.{layout, roomOf, written}
 use Rattle.ultra_format.specs.Places.{placeFault}
 use Rattle.ultra_format.specs.Plain.{writtenSize, Plain}
 use Rattle.ultra_format.specs.Decoding.{storedType, typesBefore}
-use Rattle.ultra_format.specs.Additions.{Addition, bodyGiven, typeGiven, sizeGiven, attributeGiven, additionFault}
+use Rattle.ultra_format.specs.Additions.{Addition, bodyGiven, formed, typeGiven, sizeGiven, attributeGiven, additionFault}
 use Rattle.ultra_format.specs.Additions.{Addition.addCommandLine}
 use Rattle.ultra_format.proofs.Attributes.{attribute, at, sized, width-layout, body-fits, Says, opens-says}
 use Rattle.ultra_reading.proofs.PlaceLaws.{length-types}
@@ -26,13 +26,17 @@ use Rattle.ultra_acceptance.proofs.Walked.{accepted}
 use Rattle.ultra_acceptance.proofs.Acceptance.{complete}
 use Rattle.ultra_building.specs.Building.{placementFault, begun, added}
 use Rattle.demand_3.specs.Demand3.{Held}
-use Rattle.demand_2.specs.Calls.{run, after, replies, AdditionTyped, AllTyped}
+use Rattle.demand_2.specs.Calls.{run}
 use Rattle.demand_2.specs.Calls.{Call.add}
-use Rattle.demand_2.specs.Model.{attributesGiven, contextGiven, typesBehind, refusalOf, appended, listAfterAll}
+use Rattle.demand_2.specs.CallsFromC.{after, replies}
+use Rattle.demand_2.specs.CallsFromC.{AnyCall.fromRattle}
+use Rattle.demand_2.specs.Arguments.{AdditionTyped, AllTyped}
+use Rattle.demand_2.specs.Model.{attributesGiven, contextGiven, typesBehind, refusalOf, giving, appended, listAfterAll}
 use Rattle.demand_2.specs.Demand2.{recordsBack, adds, AllSucceeded, rebuilding, Rebuilt}
+use Rattle.demand_2.proofs.Arguments.{typed-first, typed-rest, typed-more, typed-none, typed-add}
 use Rattle.demand_2.proofs.Appending.{total-append, all-more, says-type}
 use Rattle.demand_2.proofs.Following.{Added, Keeps, length-given, given-append, types-behind, begun-is, begin-follows, added-is, step-follows, same-room}
-use Rattle.demand_2.proofs.Records.{giving, giving-body, giving-typed, giving-clear}
+use Rattle.demand_2.proofs.Records.{giving-body, giving-typed, giving-clear}
 use Rattle.demand_2.proofs.ReadingBack.{record-at}
 
 -- ---- additions in a row, none of which the list refuses
@@ -47,12 +51,12 @@ record Took (d : List ℕ) (gs more : List Addition) : Type 0 where
   long : length (after (adds more) d) ≡ length d
 
 takes : (more gs : List Addition) (d : List ℕ) → Keeps d gs → AllTyped (adds more) → Taken (roomOf d) gs more → Took d gs more
-unfolding Taken AllTyped AllSucceeded replies adds after run
+unfolding Taken AllSucceeded replies adds after run
 takes [] gs d h y t = record { succeeded = tt; keeps = rw append-nil h; long = refl }
 takes (g ∷ more) gs d h y t =
-    let s = step-follows d gs (add g) h (y .0) in
-    let r = takes more (gs ++ (g ∷ [])) (added d g .1) (rw (t .0) at (s .0)) (y .1) (rw (same-room (added d g .1) d (s .1)) (t .1)) in
-    record { succeeded = ((_, refl, rw (added-is d gs (h .follows) g, t .0)), r .succeeded); keeps = rw (← (append-snoc gs g more)) (r .keeps); long = r .long ∙ s .1 }
+    let s = step-follows d gs (add g) h (typed-first (fromRattle (add g)) (adds more) y) in
+    let r = takes more (gs ++ (g ∷ [])) (added d g .1) (rw (t .0) at (s .0)) (typed-rest (fromRattle (add g)) (adds more) y) (rw (same-room (added d g .1) d (s .1)) (t .1)) in
+    record { succeeded = ((_, refl, rw (added-is d gs (h .follows) (formed g) (bodyGiven g), t .0)), r .succeeded); keeps = rw (← (append-snoc gs g more)) (r .keeps); long = r .long ∙ s .1 }
 
 -- ---- they are those whose context some buffer holds, wherever there is room for it: what stands in that buffer at the place of g tells
 -- that g may stand there
@@ -117,9 +121,9 @@ list-taken room (g ∷ more) gs t =
 
 -- ---- what is read back of a plain context
 added-typed : (gs : List Addition) → Added gs → AllTyped (adds gs)
-unfolding AllTyped adds
-added-typed [] a = tt
-added-typed (g ∷ gs) a = (a 0 (omega arith) .0, added-typed gs (λ i k. a (suc i) (omega arith)))
+unfolding adds
+added-typed [] a = typed-none
+added-typed (g ∷ gs) a = typed-more (fromRattle (add g)) (adds gs) (typed-add g (a 0 (omega arith) .0)) (added-typed gs (λ i k. a (suc i) (omega arith)))
 
 module _ (b : List ℕ) (c : Context) (h : Held b c) (p : Plain b c) where
   module _ (i : ℕ) (k : i < count c) where

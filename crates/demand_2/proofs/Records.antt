@@ -17,7 +17,7 @@ use Rattle.ultra_format.specs.Contexts.{Member.present, Member.absent, Body.pla
 use Rattle.ultra_format.specs.Layouts.{memberFields, depthFields, entriesFields, bodyFields}
 use Rattle.ultra_format.specs.Rules.{TypeSuits, AttributeMeets}
 use Rattle.ultra_format.specs.Plain.{writtenSize}
-use Rattle.ultra_format.specs.Records.{optionalU64, optionalU8, platformRecord, kernelRecord, moduleRecord, framebufferRecord, recordsOf}
+use Rattle.ultra_format.specs.Records.{optionalU64, optionalU8, recordsOf}
 use Rattle.ultra_format.specs.Additions.{Addition, entriesGiven, bodyGiven, formed, additionFault, givenFault}
 use Rattle.ultra_format.specs.Additions.{Addition.addPlatform, Addition.addKernel, Addition.addMap, Addition.addModule, Addition.addCommandLine, Addition.addFramebuffer}
 use Rattle.ultra_format.proofs.Chains.{passed}
@@ -30,18 +30,9 @@ use Rattle.ultra_questions.specs.AttributeQuestion.{answered}
 use Rattle.words.specs.Words.{numbersAt}
 use Rattle.ultra_questions.specs.MapQuestion.{numbers}
 use Rattle.ultra_questions.proofs.MapLaws.{numbers-stored}
-use Rattle.demand_2.specs.Calls.{WideTyped, NarrowTyped, NumbersTyped, ArrayTyped, AdditionTyped}
+use Rattle.demand_2.specs.Arguments.{WideTyped, NarrowTyped, NumbersTyped, ArrayTyped, AdditionTyped}
+use Rattle.demand_2.specs.Model.{giving}
 use Rattle.demand_2.specs.Demand2.{recordBack}
-
--- the addition that gives a body; types from 7 up are never written
-unfoldable pub giving : Body → Addition
-giving (platform p) = addPlatform (platformRecord p)
-giving (kernel k) = addKernel (kernelRecord k)
-giving (memoryMap es) = addMap (numbers es)
-giving (moduleInfo m) = addModule (moduleRecord m)
-giving (commandLine t) = addCommandLine t
-giving (framebuffer f) = addFramebuffer (framebufferRecord f)
-giving (other t) = addCommandLine []
 
 -- ---- the numbers of a map
 length-numbers : (es : List Entry) → length (numbers es) ≡ 3 * length es
@@ -49,7 +40,7 @@ unfolding numbers
 length-numbers [] = refl
 length-numbers (e ∷ es) = let r = length-numbers es in omega arith
 
-numbers-given : (es : List Entry) → entriesGiven (numbers es) ≡ es
+pub numbers-given : (es : List Entry) → entriesGiven (numbers es) ≡ es
 unfolding numbers entriesGiven
 numbers-given [] = refl
 numbers-given (e ∷ es) = ap (λ (l : List Entry). e ∷ l) (numbers-given es)

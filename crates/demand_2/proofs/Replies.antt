@@ -6,23 +6,25 @@ use mathlib.Core.Bool.{Bool, true, false, _&&_}
 use mathlib.Core.List.{List, []}
 use native.Mathlib.Omega.{arith}
 use native.Mathlib.Numerals.{add-one}
-use lib.ListN.{take}
+use lib.ListN.{length, take}
 use lib.Seq.{getD-take}
 use lib.Dec.{leb, ltb, eqb}
 use borrow.Author.Tests.{leb-true, leb-false, ltb-true, ltb-false, eqb-true, le-leb}
-use Rattle.words.specs.Words.{numberAt, u32At}
+use Rattle.words.specs.Words.{numberAt, u32At, numbersIn}
+use Rattle.key_value_text.specs.Lines.{Line, linesBytes}
 use Rattle.byte_layout.specs.Stored.{bytesAt}
 use Rattle.ultra_format.specs.Refusals.{MISSING}
-use Rattle.ultra_format.specs.Answers.{refused, orRefused}
-use Rattle.ultra_format.specs.Contexts.{Context, count, sizeAt, used, total}
+use Rattle.ultra_format.specs.Answers.{refusal, refused, orRefused}
+use Rattle.ultra_format.specs.Contexts.{Body, Context, count, sizeAt, used, total}
 use Rattle.ultra_format.specs.Layouts.{roomOf, written}
 use Rattle.ultra_format.specs.Rules.{Meets}
 use Rattle.ultra_format.specs.Decoding.{pick, start, storedCount}
-use Rattle.ultra_format.specs.Additions.{Addition, bodyGiven}
+use Rattle.ultra_format.specs.Plain.{writtenSize}
+use Rattle.ultra_format.specs.Additions.{Addition, bodyGiven, formed, sizeGiven}
 use Rattle.ultra_format.specs.declared.Answer.{Answer}
 use Rattle.ultra_format.specs.declared.Answer.the-variants.{Done}
 use Rattle.ultra_format.proofs.Chains.{both-hold}
-use Rattle.ultra_format.proofs.Decoded.{starts}
+use Rattle.ultra_format.proofs.Decoded.{starts, decoded-only}
 use Rattle.ultra_reading.specs.Reading.{headFault, boundsFault, usedLength, versionOf, withVersion, readingOf}
 use Rattle.ultra_reading.specs.Stepping.{cursorFault, stepRefused, cursorAt, headerAt, stepOf}
 use Rattle.ultra_reading.specs.declared.cursor.Cursor.{Cursor}
@@ -39,18 +41,23 @@ use Rattle.ultra_questions.specs.ByContext.{ByContext}
 use Rattle.ultra_questions.specs.QuestionRefusals.{PassesOn}
 use Rattle.ultra_questions.specs.declared.attributes.AttributeAnswer.{AttributeAnswer}
 use Rattle.ultra_questions.specs.AttributeQuestion.{attributeAnswer}
+use Rattle.ultra_questions.specs.MapQuestion.{mapCopied, mapCopiedBytes, overBytes}
+use Rattle.ultra_listing.specs.Listing.{contextLines, refusedLines, linesOf, textListed, listed}
 use Rattle.ultra_questions.proofs.ByContext.{questions-by-context}
 use Rattle.ultra_questions.proofs.QuestionRefusals.{refusals-pass-on}
 use Rattle.ultra_building.specs.Building.{addedAt}
 use Rattle.demand_3.specs.Demand3.{ReadingIs}
 use Rattle.demand_3.proofs.Demand3.{demand-3}
-use Rattle.demand_2.specs.Calls.{Call, lentPart, run}
-use Rattle.demand_2.specs.Calls.{Call.begin, Call.add, Call.read, Call.askUsed, Call.step, Call.askAttribute, Call.askStart, Call.askPart, Call.copyMap, Call.askLine, Call.locateLine, Call.askModule}
-use Rattle.demand_2.specs.Calls.{Reply.answer, Reply.reading, Reply.stepped, Reply.attribute, Reply.located, Reply.lent, Reply.copied}
-use Rattle.demand_2.specs.Model.{contextGiven, refusalOf, addAnswer, tooFew, stepWithin, stepIn, partIn, replyTo, attributesGiven}
+use Rattle.demand_2.specs.Calls.{membersFormed, membersBody, Call, Reply, lentPart, run}
+use Rattle.demand_2.specs.Calls.{Call.begin, Call.add, Call.addMembers, Call.read, Call.step, Call.askAttribute, Call.askStart, Call.askPart, Call.copyMap, Call.copyMapBytes, Call.askLine, Call.locateLine, Call.askModule, Call.list, Call.askListingLength}
+use Rattle.demand_2.specs.Calls.{Reply.answer, Reply.reading, Reply.stepped, Reply.attribute, Reply.located, Reply.lent, Reply.copied, Reply.number}
+use Rattle.demand_2.specs.CallsFromC.{replyCrossed, AnyCall, inRattle, runAny}
+use Rattle.demand_2.specs.CallsFromC.{AnyCall.fromRattle, AnyCall.fromC}
+use Rattle.demand_2.specs.Model.{contextGiven, membersRefusal, refusalOf, giving, addAnswer, tooFew, stepWithin, stepIn, partIn, mapReply, replyTo, anyReply, attributesGiven}
 use Rattle.demand_2.specs.Demand2.{Follows, Undetermined, StepsThrough}
 use Rattle.demand_2.proofs.Appending.{says-type}
-use Rattle.demand_2.proofs.Following.{says-given, begun-is, long, added-is, used-more}
+use Rattle.demand_2.proofs.Following.{says-given, begun-is, long, added-is, used-more, crosses}
+use Rattle.demand_2.proofs.GivenMembers.{members-size}
 
 -- the number in the front of a list
 number-front : (d : List ℕ) (u o k : ℕ) → o + k ≤ u → numberAt d o k ≡ numberAt (take u d) o k
@@ -200,22 +207,44 @@ module _ (d : List ℕ) (gs : List Addition) (f : Follows d gs) where
         past = λ i o h. ap stepped (rw (head-enough 2 l, counts, le-leb (count now) i h));
       }
 
+  -- ---- the listing
+  listed-given : linesOf d ≡ pick (leb 2 (count now)) (contextLines now) (refusedLines (refusal MISSING 0))
+  unfolding linesOf
+  listed-given =
+      by-count now 2
+      (λ l. rw (complete 2 d now (enough-meets 2 l) (f .held .1)) (ap contextLines (sym (decoded-only 2 (roomOf d) d now (enough-meets 2 l) (f .held .1)))))
+      (λ l. rw (missing 2 l))
+
   -- ---- every call
-  add-reply : (g : Addition) (n : ℕ) → addedAt d (bodyGiven g) (orRefused n (used now) (Done (used now))) .0 ≡ addAnswer n gs g
-  add-reply g zero = ap Done (sym (used-more gs g))
-  add-reply g (suc n) = refl
+  add-reply : (x : Body) (g : Addition) → writtenSize x ≡ sizeGiven g → (n : ℕ) → addedAt d x (orRefused n (used now) (Done (used now))) .0 ≡ addAnswer n gs g
+  add-reply x g e zero = ap Done (ap (λ (s : ℕ). used now + s) e ∙ sym (used-more gs g))
+  add-reply x g e (suc n) = refl
+
+  map-reply : (out : List ℕ) → mapCopied d out ≡ mapReply now out
+  map-reply out = by-count now 2 (λ l. asked l .maps out) (λ l. unasked l .maps out)
 
   pub replies-by-list : (k : Call) → (Undetermined (roomOf d) now k → ⊥) → run k d .0 ≡ replyTo (roomOf d) k gs
-  unfolding run replyTo total attributesGiven
+  unfolding run replyTo total attributesGiven mapCopiedBytes listed
   replies-by-list begin n = ap (λ (r : Answer × List ℕ). answer (r .0)) (begun-is d (long d gs f))
-  replies-by-list (add g) n = ap (λ (r : Answer × List ℕ). answer (r .0)) (added-is d gs f g) ∙ ap answer (add-reply g (refusalOf (roomOf d) gs g))
+  replies-by-list (add g) n =
+      ap (λ (r : Answer × List ℕ). answer (r .0)) (added-is d gs f (formed g) (bodyGiven g)) ∙ ap answer (add-reply (bodyGiven g) g refl (refusalOf (roomOf d) gs g))
+  replies-by-list (addMembers m) n =
+      ap (λ (r : Answer × List ℕ). answer (r .0)) (added-is d gs f (membersFormed m) (membersBody m))
+      ∙ ap answer (add-reply (membersBody m) (giving (membersBody m)) (sym (members-size m)) (membersRefusal (roomOf d) gs (membersFormed m) (membersBody m)))
   replies-by-list read n = ap reading (by-count now 2 (λ l. held-reading d now (held-two l)) reading-few)
-  replies-by-list (askUsed fewest) n = ap answer (by-count now fewest (λ l. complete fewest d now (enough-meets fewest l) (f .held .1)) (missing fewest))
   replies-by-list (step k) n = ap stepped (step-given k n)
   replies-by-list (askAttribute i) n = ap attribute (by-count now 2 (λ l. asked l .attributes i) (λ l. unasked l .attributes i))
   replies-by-list (askStart i) n = ap answer (by-count now 2 (λ l. asked l .starts i) (λ l. unasked l .starts i))
   replies-by-list (askPart i) n = by-count now 2 (λ l. part-given l i) (λ l. no-part l i)
-  replies-by-list (copyMap out) n = ap copied (by-count now 2 (λ l. asked l .maps out) (λ l. unasked l .maps out))
+  replies-by-list (copyMap out) n = ap copied (map-reply out)
+  replies-by-list (copyMapBytes out) n = ap (λ (r : Answer × List ℕ). copied (overBytes out r)) (map-reply (numbersIn out))
   replies-by-list askLine n = by-count now 2 (λ l. ap₂ lent (asked l .line) (asked l .text)) no-line
   replies-by-list locateLine n = ap located (by-count now 2 (λ l. asked l .line) (λ l. unasked l .line))
   replies-by-list (askModule a) n = ap answer (by-count now 2 (λ l. asked l .modules a) (λ l. unasked l .modules a))
+  replies-by-list (list out) n = ap (λ (ls : List Line). copied (textListed (linesBytes ls) out)) listed-given
+  replies-by-list askListingLength n = ap (λ (ls : List Line). number (length (linesBytes ls))) listed-given
+
+  -- from Rattle or from C
+  pub any-reply : (k : AnyCall) → (Undetermined (roomOf d) now (inRattle k) → ⊥) → runAny k d .0 ≡ anyReply (roomOf d) k gs
+  any-reply (fromRattle k) n = replies-by-list k n
+  any-reply (fromC k) n = ap (λ (r : Reply × List ℕ). r .0) (crosses d k) ∙ ap replyCrossed (replies-by-list (inRattle (fromC k)) n)

@@ -7,42 +7,43 @@ use native.Mathlib.Omega.{arith}
 use lib.ListN.{length}
 use lib.Seq.{take-all}
 use Rattle.ultra_format.specs.Contexts.{Context, count, bodyAt, total, used}
-use Rattle.ultra_format.specs.Layouts.{roomOf, written}
+use Rattle.ultra_format.specs.Layouts.{roomOf}
 use Rattle.ultra_format.specs.Plain.{Plain}
 use Rattle.ultra_format.specs.Examples.{listed, listedBytes, sixTypes, sixTypesBytes}
 use Rattle.ultra_format.specs.Additions.{Addition}
-use Rattle.ultra_format.proofs.Witness.{listed-written, listed-meets, listed-opens, listed-plain, six-types-written, six-types-meets, six-types-opens, six-types-plain}
+use Rattle.ultra_format.proofs.Witness.{listed-meets, listed-opens, listed-plain, six-types-meets, six-types-opens, six-types-plain}
 use Rattle.ultra_questions.specs.MapQuestion.{numbers}
 use Rattle.demand_3.specs.Demand3.{Held}
-use Rattle.demand_2.specs.Calls.{after}
-use Rattle.demand_2.specs.Model.{listAfterAll}
+use Rattle.demand_2.specs.Calls.{run}
+use Rattle.demand_2.specs.CallsFromC.{after}
+use Rattle.demand_2.specs.Model.{giving}
 use Rattle.demand_2.specs.Demand2.{recordAt, recordsBack, adds, rebuilding}
 use Rattle.demand_2.specs.Witness.{listedAdditions, sixAdditions, Built, Witnessed}
-use Rattle.demand_2.proofs.Records.{giving}
 use Rattle.demand_2.proofs.ReadingBack.{record-at}
-use Rattle.demand_2.proofs.Rebuilding.{context-back, typed-back, rebuilt-length, rebuilt-bytes, rebuilt-list, rebuilds}
+use Rattle.demand_2.proofs.Rebuilding.{context-back, typed-back, rebuilt-list}
+use Rattle.demand_2.proofs.Demand2.{demand-2}
+use Rattle.demand_2.proofs.EveryCall.{every-kind, widest, two-are-enough, head, other}
 
 -- the records that are read back of plain bytes build them, in as many bytes as are used
-module _ (bytes : List ℕ) (c : Context) (n : ℕ) (h : Held bytes c) (p : Plain bytes c) (w : written c ≡ bytes) (u : used c ≡ n) where
+module _ (bytes : List ℕ) (c : Context) (n : ℕ) (h : Held bytes c) (p : Plain bytes c) (l : length bytes ≡ n) (u : used c ≡ n) where
   room : (b : List ℕ) → length b ≡ n → used c ≤ roomOf b
-  room b l = omega (arith, h .0 .within)
+  room b e = omega (arith, h .0 .within)
 
   again : (b : List ℕ) → length b ≡ n → after (rebuilding bytes (count c)) b ≡ bytes
-  again b l =
+  unfolding after run
+  again b e =
       let r = after (rebuilding bytes (count c)) b in
-      sym (take-all (used c) r (omega (arith, rebuilt-length bytes c h p b (room b l)))) ∙ rebuilt-bytes bytes c h p b (room b l) ∙ w
-
-  listed-again : listAfterAll n (adds (recordsBack bytes (count c))) [] ≡ recordsBack bytes (count c)
-  listed-again = rebuilt-list bytes c h p n (omega arith)
+      let t = demand-2 .sameLength b (adds (recordsBack bytes (count c))) (demand-2 .begins b (omega (arith, room b e)) .0) (typed-back bytes c h p) in
+      sym (take-all (used c) r (omega (arith, t))) ∙ demand-2 .rebuilds bytes b c h p (room b e) .same ∙ take-all (used c) bytes (omega arith)
 
   back : Built (recordsBack bytes (count c)) c bytes n
   back =
       record {
         typed = typed-back bytes c h p;
         list = context-back bytes c h p;
-        kept = listed-again;
+        kept = rebuilt-list bytes c h p n (omega arith);
         built = again;
-        accepted = λ b l. rebuilds bytes c h p b (room b l) .unrefused;
+        accepted = λ b e. demand-2 .rebuilds bytes b c h p (room b e) .unrefused;
         plain = p;
         holds = h;
       }
@@ -65,10 +66,23 @@ six-back = λ j. [] ++ at 0 (omega arith) j ++ at 1 (omega arith) j ++ at 2 (ome
     at : (i : ℕ) → i < count sixTypes → recordAt sixTypesBytes i ≡ giving (bodyAt sixTypes i) ∷ []
     at = one sixTypesBytes sixTypes (six-types-meets, six-types-opens) six-types-plain
 
-pub witnessed : Witnessed
+listing : Built listedAdditions listed listedBytes 480
 unfolding total
+listing = subst (λ (gs : List Addition). Built gs listed listedBytes 480) listed-back (back listedBytes listed 480 (listed-meets, listed-opens) listed-plain refl refl)
+
+six : Built sixAdditions sixTypes sixTypesBytes 640
+unfolding total
+six = subst (λ (gs : List Addition). Built gs sixTypes sixTypesBytes 640) six-back (back sixTypesBytes sixTypes 640 (six-types-meets, six-types-opens) six-types-plain refl refl)
+
+pub witnessed : Witnessed
 witnessed =
     record {
-      listing = subst (λ (gs : List Addition). Built gs listed listedBytes 480) listed-back (back listedBytes listed 480 (listed-meets, listed-opens) listed-plain listed-written refl);
-      six = subst (λ (gs : List Addition). Built gs sixTypes sixTypesBytes 640) six-back (back sixTypesBytes sixTypes 640 (six-types-meets, six-types-opens) six-types-plain six-types-written refl);
+      listing = listing;
+      six = six;
+      every = every-kind six;
+      widest = widest;
+      enough = two-are-enough (six .typed);
+      head = head;
+      headless = λ b e. demand-2 .beginsNot b (omega arith);
+      other = other (six .typed);
     }

@@ -4,11 +4,11 @@
 -- given; a plain context, built again from its reading, has the same bytes."
 -- The layout is `layout` (crate ultra_format), which `follows` says of building and demand 3 of reading; bytes written by hand hold it to
 -- document 01 (Examples, Witness).
--- What the calls do to a buffer is `run` (Calls), what they do to a list and answer by it `listAfter` and `replyTo` (Model). Proved in
--- proofs/Demand2.antt: `demand-2`.
+-- What the calls do to a buffer is `run` (Calls) and, from C, `runFromC` (CallsFromC); what they do to a list and answer by it is
+-- `listAfter` and `replyTo` (Model). Proved in proofs/Demand2.antt: `demand-2`.
 -- What is assumed: nobody else writes the buffer, so that a call finds what the call before left (`after`); it is lent for nothing but
 -- its context, so that no text, map or output that a call is given beside it is a part of it (they are lists of their own); and
--- arguments of adds are of their types (`AllTyped`).
+-- arguments of adds are of their types (`AllTyped`, Arguments).
 -- Assumes nothing else.
 use Prim.Native.Nat.{ℕ, zero, suc, _+_, _/_, _%_, _≤_, _<_}
 use mathlib.Core.Path.{_≡_}
@@ -23,10 +23,11 @@ use Rattle.byte_layout.specs.Fields.{cells, SilentAt}
 use Rattle.ultra_format.specs.Layouts.{attributeFields, roomOf, written}
 use Rattle.ultra_format.specs.Plain.{Plain}
 use Rattle.ultra_format.specs.Decoding.{pick, storedCount}
-use Rattle.ultra_format.specs.Additions.{Addition, sizeGiven, attributeGiven}
+use Rattle.ultra_format.specs.Additions.{Addition, sizeGiven, attributeGiven, bodyGiven}
 use Rattle.ultra_format.specs.Additions.{Addition.addPlatform, Addition.addKernel, Addition.addMap, Addition.addModule, Addition.addCommandLine, Addition.addFramebuffer}
+use Rattle.ultra_format.specs.declared.Refusal.{Refusal}
 use Rattle.ultra_format.specs.declared.Answer.{Answer}
-use Rattle.ultra_format.specs.declared.Answer.the-variants.{Done}
+use Rattle.ultra_format.specs.declared.Answer.the-variants.{Done, Refused}
 use Rattle.ultra_reading.specs.Reading.{usedLength, readingOf}
 use Rattle.ultra_reading.specs.Stepping.{cursorAt}
 use Rattle.ultra_reading.specs.declared.Reading.the-variants.{Accepted}
@@ -38,10 +39,13 @@ use Rattle.ultra_questions.specs.AttributeQuestion.{unanswered, attributeAnswer
 use Rattle.words.specs.Words.{numbersAt}
 use Rattle.ultra_building.specs.Building.{begun, added}
 use Rattle.demand_3.specs.Demand3.{Held, partAt}
-use Rattle.demand_2.specs.Calls.{Call, Reply, run, after, replies, AdditionTyped, AllTyped}
-use Rattle.demand_2.specs.Calls.{Call.begin, Call.add, Call.step}
+use Rattle.demand_2.specs.Calls.{Members, membersBody, Call, Reply, run}
+use Rattle.demand_2.specs.Calls.{Call.begin, Call.add, Call.addMembers, Call.step}
 use Rattle.demand_2.specs.Calls.{Reply.answer, Reply.stepped}
-use Rattle.demand_2.specs.Model.{contextGiven, listAfterAll, replyTo}
+use Rattle.demand_2.specs.CallsFromC.{CallFromC, runFromC, asked, replyCrossed, AnyCall, inRattle, runAny, after, replies}
+use Rattle.demand_2.specs.CallsFromC.{AnyCall.fromRattle}
+use Rattle.demand_2.specs.Arguments.{AdditionTyped, MembersTyped, AllTyped}
+use Rattle.demand_2.specs.Model.{contextGiven, giving, listAfterAll, anyReply}
 
 -- ---- a buffer compared with a list
 pub record Follows (b : List ℕ) (gs : List Addition) : Type 0 where
@@ -97,14 +101,14 @@ unfoldable pub recordsBack : List ℕ → ℕ → List Addition
 recordsBack b zero = []
 recordsBack b (suc n) = recordsBack b n ++ recordAt b n
 
-unfoldable pub adds : List Addition → List Call
+unfoldable pub adds : List Addition → List AnyCall
 adds [] = []
-adds (g ∷ gs) = add g ∷ adds gs
+adds (g ∷ gs) = fromRattle (add g) ∷ adds gs
 
 -- "built again from its reading": a beginning, and an add of each record that was answered. From the count on none is: the reading itself
 -- says where it ends
-abbrev pub rebuilding : List ℕ → ℕ → List Call
-rebuilding b n = begin ∷ adds (recordsBack b n)
+abbrev pub rebuilding : List ℕ → ℕ → List AnyCall
+rebuilding b n = fromRattle begin ∷ adds (recordsBack b n)
 
 -- a beginning or an add that was not refused: its number is 0
 abbrev pub Succeeded : Reply → Type 0
@@ -129,9 +133,16 @@ pub record Appended (b : List ℕ) (c : Context) (g : Addition) (d : List ℕ) (
   -- "raises the head's count by one and changes no other byte"
   pub others : (i : ℕ) → (i < 4) ⊎ ((8 ≤ i) × (i < used c)) ⊎ (n ≤ i) → getD d i 0 ≡ getD b i 0
 
+-- ---- members one by one
+-- an add of members is the add of the record that has them; or it is refused, and changes nothing
+abbrev pub AsRecord : List ℕ → Members → Type 0
+AsRecord b m =
+    let g = giving (membersBody m) in
+    ((r : Refusal) × (run (addMembers m) b ≡ (answer (Refused r), b))) ⊎ (AdditionTyped g × (bodyGiven g ≡ membersBody m) × (run (addMembers m) b ≡ run (add g) b))
+
 -- ---- the demand
 -- b is a buffer whose beginning is accepted; ks are any calls after it
-module _ (b : List ℕ) (ks : List Call) where
+module _ (b : List ℕ) (ks : List AnyCall) where
   abbrev pub bufferNow : List ℕ
   bufferNow = after ks (begun b .1)
 
@@ -145,20 +156,25 @@ pub record Demand2 : Type 0 where
   pub beginsNot : (b : List ℕ) → length b < 8 → begun b ≡ (refused SHORT 0, b)
   -- "over any sequence of calls": after every call the buffer is as the list says. A beginning empties the list, an add that is not
   -- refused appends to it, any other call leaves it (listAfter)
-  pub follows : (b : List ℕ) (ks : List Call) → begun b .0 ≡ Done 8 → AllTyped ks → Follows (bufferNow b ks) (listNow b ks)
-  pub sameLength : (b : List ℕ) (ks : List Call) → begun b .0 ≡ Done 8 → AllTyped ks → length (bufferNow b ks) ≡ length b
+  pub follows : (b : List ℕ) (ks : List AnyCall) → begun b .0 ≡ Done 8 → AllTyped ks → Follows (bufferNow b ks) (listNow b ks)
+  pub sameLength : (b : List ℕ) (ks : List AnyCall) → begun b .0 ≡ Done 8 → AllTyped ks → length (bufferNow b ks) ≡ length b
   -- and every answer is the one that the list determines
-  pub answers : (b : List ℕ) (ks : List Call) (k : Call) → begun b .0 ≡ Done 8 → AllTyped ks
-      → (Undetermined (roomOf b) (contextGiven (listNow b ks)) k → ⊥)
-      → run k (bufferNow b ks) .0 ≡ replyTo (roomOf b) k (listNow b ks)
-  pub steps : (b : List ℕ) (ks : List Call) → begun b .0 ≡ Done 8 → AllTyped ks → 2 ≤ length (listNow b ks)
+  pub answers : (b : List ℕ) (ks : List AnyCall) (k : AnyCall) → begun b .0 ≡ Done 8 → AllTyped ks
+      → (Undetermined (roomOf b) (contextGiven (listNow b ks)) (inRattle k) → ⊥)
+      → runAny k (bufferNow b ks) .0 ≡ anyReply (roomOf b) k (listNow b ks)
+  pub steps : (b : List ℕ) (ks : List AnyCall) → begun b .0 ≡ Done 8 → AllTyped ks → 2 ≤ length (listNow b ks)
       → StepsThrough (bufferNow b ks) (contextGiven (listNow b ks))
+  -- "called from the loader, which is written in C": a call from C does what the call from Rattle does, and its answer is that call's as
+  -- one number
+  pub crosses : (b : List ℕ) (k : CallFromC) → runFromC k b ≡ (replyCrossed (run (asked k) b .0), run (asked k) b .1)
+  -- "records given cross as numbers and byte slices", in any buffer
+  pub members : (b : List ℕ) (m : Members) → MembersTyped m → AsRecord b m
   -- "or is refused": a beginning or an add that is refused leaves every byte, in any buffer, and so does a question that answers an
   -- `Answer`; every other call is lent the buffer to read alone (`run`)
   pub refusals : (b : List ℕ) (k : Call) (a : Answer) → run k b .0 ≡ answer a → (numberOf a ≡ 0 → ⊥) → run k b .1 ≡ b
   -- beyond the order: adding to any buffer that holds a context, also one that another writer began, appends exactly the attribute given
   pub appends : (b : List ℕ) (c : Context) (g : Addition) (n : ℕ) → HeldBy 0 b c → AdditionTyped g → added b g .0 ≡ Done n → Appended b c g (added b g .1) n
   -- "With two or more, it reads back as the records given"
-  pub readsBack : (b : List ℕ) (ks : List Call) → begun b .0 ≡ Done 8 → AllTyped ks → 2 ≤ length (listNow b ks) → ReadsBack (bufferNow b ks) (listNow b ks)
+  pub readsBack : (b : List ℕ) (ks : List AnyCall) → begun b .0 ≡ Done 8 → AllTyped ks → 2 ≤ length (listNow b ks) → ReadsBack (bufferNow b ks) (listNow b ks)
   -- "a plain context, built again from its reading, has the same bytes": into any buffer with room for it, and nothing is refused
   pub rebuilds : (b d : List ℕ) (c : Context) → Held b c → Plain b c → used c ≤ roomOf d → Rebuilt b d c

@@ -1,24 +1,38 @@
 -- Demand 2 does not speak of nothing: two contexts, built from their records in buffers of just their length, whatever those hold, are
 -- the bytes that were written by hand (Examples, of crate ultra_format): the 480 of document 01's listing, and 640 with each of the six
--- types once, no two members of one record alike. Both are plain. Proved in proofs/Witness.antt: `witnessed`.
+-- types once, no two members of one record alike. Both are plain. And no premise of it excludes a call unnoticed: calls of every kind, a
+-- second beginning among them, build the same 640 bytes; the widest arguments are of their types; two attributes are enough; a context
+-- that another writer began is extended. Each is proved from the demand itself, in proofs/Witness.antt: `witnessed`.
 -- Assumes nothing.
 use Prim.Native.Nat.{ℕ}
+use mathlib.Core.Bool.{true, false}
 use mathlib.Core.Path.{_≡_}
 use mathlib.Core.List.{List, [], _∷_}
-use lib.ListN.{length}
+use lib.ListN.{length, take, replicate}
+use Rattle.ultra_format.specs.Refusals.{SHORT}
+use Rattle.ultra_format.specs.Answers.{refused}
+use Rattle.ultra_format.specs.Decoding.{contextOf}
 use Rattle.ultra_format.specs.Contexts.{Context}
 use Rattle.ultra_format.specs.Plain.{Plain}
-use Rattle.ultra_format.specs.Examples.{zeros, listed, listedBytes, sixTypes, sixTypesBytes}
+use Rattle.ultra_format.specs.Examples.{zeros, junk, listed, listedBytes, sixTypes, sixTypesBytes}
 use Rattle.ultra_format.specs.Additions.{Addition}
 use Rattle.ultra_format.specs.Additions.{Addition.addPlatform, Addition.addKernel, Addition.addMap, Addition.addModule, Addition.addCommandLine, Addition.addFramebuffer}
+use Rattle.ultra_format.specs.declared.Answer.the-variants.{Done}
 use Rattle.ultra_format.specs.declared.records.OptionalU64.the-variants as wide
 use Rattle.ultra_format.specs.declared.records.OptionalU8.the-variants as narrow
+use Rattle.ultra_reading.specs.Stepping.{cursorAt}
+use Rattle.ultra_building.specs.Building.{begun, added}
 use Rattle.demand_3.specs.Demand3.{Held}
-use Rattle.demand_3.specs.Witness.{everyPlatformRecord, everyKernelRecord, everyModuleRecord, everyFramebufferRecord, everyLine}
-use Rattle.demand_2.specs.Calls.{after, replies, AllTyped}
-use Rattle.demand_2.specs.Calls.{Call.begin}
+use Rattle.demand_3.specs.Witness.{everyPlatformRecord, everyKernelRecord, everyModuleRecord, everyFramebufferRecord, everyEntries, everyLine}
+use Rattle.demand_2.specs.Calls.{Members.platformMembers, Members.kernelMembers, Members.mapMembers, Members.moduleMembers, Reply.number}
+use Rattle.demand_2.specs.Calls.{Call.begin, Call.add, Call.addMembers, Call.read, Call.step, Call.askAttribute, Call.askStart, Call.askPart, Call.copyMap, Call.copyMapBytes, Call.askLine, Call.locateLine, Call.askModule, Call.list, Call.askListingLength}
+use Rattle.demand_2.specs.CallsFromC.{AnyCall, runAny, after, replies}
+use Rattle.demand_2.specs.CallsFromC.{AnyCall.fromRattle, AnyCall.fromC}
+use Rattle.demand_2.specs.CallsFromC.{CallFromC.ultraRead, CallFromC.ultraStep, CallFromC.ultraAttribute, CallFromC.ultraCopyMap, CallFromC.ultraCommandLine, CallFromC.ultraModuleHolding, CallFromC.ultraBegin}
+use Rattle.demand_2.specs.CallsFromC.{CallFromC.ultraAddPlatform, CallFromC.ultraAddKernel, CallFromC.ultraAddMap, CallFromC.ultraAddModule, CallFromC.ultraAddCommandLine, CallFromC.ultraAddFramebuffer}
+use Rattle.demand_2.specs.Arguments.{AllTyped}
 use Rattle.demand_2.specs.Model.{contextGiven, listAfterAll}
-use Rattle.demand_2.specs.Demand2.{adds, AllSucceeded}
+use Rattle.demand_2.specs.Demand2.{StepsThrough, ReadsBack, adds, AllSucceeded, Appended, bufferNow}
 
 -- the records of 01's listing
 abbrev pub listedAdditions : List Addition
@@ -60,18 +74,133 @@ sixAdditions =
     ∷ addFramebuffer (everyFramebufferRecord .framebuffer)
     ∷ []
 
+-- ---- calls of every kind
+-- after a first beginning: two attributes, a beginning that empties the list, the six types in turn; adds that are refused; every question
+abbrev pub everyCall : List AnyCall
+everyCall =
+    fromRattle (add (addPlatform (everyPlatformRecord .platform)))
+    ∷ fromC (ultraAddKernel 4096 4096 4096 1 (zeros 16) (zeros 16) 0 0 (47 ∷ []))
+    ∷ fromC ultraBegin
+    ∷ fromRattle begin
+    ∷ fromRattle (addMembers (platformMembers true 67305985 258 772 (98 ∷ []) 578437695752307201 2314601843866147353 5 1157159078456920585 1735880461161533969))
+    ∷ fromC (ultraAddKernel 4294971392 18446744071562072064 69632 3 (everyKernelRecord .kernel .«disk_guid») (everyKernelRecord .kernel .«partition_guid») 513 1027 (47 ∷ 107 ∷ 195 ∷ 169 ∷ []))
+    ∷ fromRattle (addMembers (mapMembers everyEntries))
+    ∷ fromC (ultraAddModule 2 (109 ∷ []) 8589934592 4097)
+    ∷ fromRattle (add (addCommandLine everyLine))
+    ∷ fromC (ultraAddFramebuffer 1024 768 4096 32 3 18446744073706405888)
+    -- refused: 9, 9, 9, 9, 10, 10, 11, 11, 10, 10
+    ∷ fromRattle (addMembers (platformMembers false 2 0 0 [] 0 0 0 0 0))
+    ∷ fromC (ultraAddPlatform 2 0 0 [] 0 0 0 0 0)
+    ∷ fromRattle (add (addKernel (everyKernelRecord .kernel)))
+    ∷ fromRattle (addMembers (kernelMembers 0 0 0 1 [] [] 0 0 (47 ∷ [])))
+    ∷ fromRattle (add (addMap (0 ∷ 0 ∷ [])))
+    ∷ fromC (ultraAddMap (0 ∷ []))
+    ∷ fromRattle (add (addModule (everyModuleRecord .«module»)))
+    ∷ fromRattle (addMembers (moduleMembers 1 [] 0 0))
+    ∷ fromC (ultraAddCommandLine [])
+    ∷ fromRattle (add (addFramebuffer (everyFramebufferRecord .framebuffer)))
+    -- calls that only read
+    ∷ fromRattle read
+    ∷ fromRattle (step (cursorAt 0 8))
+    ∷ fromRattle (askAttribute 3)
+    ∷ fromRattle (askStart 7)
+    ∷ fromRattle (askPart 2)
+    ∷ fromRattle (copyMap (1 ∷ []))
+    ∷ fromRattle (copyMapBytes (1 ∷ []))
+    ∷ fromRattle askLine
+    ∷ fromRattle locateLine
+    ∷ fromRattle (askModule 8589934592)
+    ∷ fromRattle (list (1 ∷ []))
+    ∷ fromRattle askListingLength
+    ∷ fromC ultraRead
+    ∷ fromC (ultraStep 0 8)
+    ∷ fromC (ultraAttribute 3)
+    ∷ fromC (ultraCopyMap (1 ∷ []))
+    ∷ fromC ultraCommandLine
+    ∷ fromC (ultraModuleHolding 8589934592)
+    ∷ []
+
+-- the widest arguments of each add: every number the largest of its width, every byte 255, and texts and GUIDs longer than any field
+abbrev pub ones : ℕ → List ℕ
+ones n = replicate n 255
+
+abbrev pub widestCalls : List AnyCall
+widestCalls =
+    fromRattle (add (addPlatform (record {
+      kind = 4294967295;
+      «loader_major» = 65535;
+      «loader_minor» = 65535;
+      name = ones 32;
+      rsdp = 18446744073709551615;
+      «higher_half_base» = wide.Present 18446744073709551615;
+      depth = narrow.Present 255;
+      dtb = wide.Present 18446744073709551615;
+      smbios = wide.Absent;
+    })))
+    ∷ fromRattle (add (addKernel (record {
+      «physical_base» = 18446744073709551615;
+      «virtual_base» = 18446744073709551615;
+      size = 18446744073709551615;
+      «partition_type» = 18446744073709551615;
+      «disk_guid» = ones 16;
+      «partition_guid» = ones 16;
+      «disk_index» = 4294967295;
+      «partition_index» = 4294967295;
+      path = ones 256;
+    })))
+    ∷ fromRattle (add (addMap (18446744073709551615 ∷ 18446744073709551615 ∷ [])))
+    ∷ fromRattle (add (addModule (record { kind = 4294967295; name = ones 64; address = 18446744073709551615; size = 18446744073709551615 })))
+    ∷ fromRattle (add (addCommandLine (ones 9)))
+    ∷ fromRattle (add (addFramebuffer (record { width = 4294967295; height = 4294967295; pitch = 4294967295; bpp = 65535; format = 65535; address = 18446744073709551615 })))
+    ∷ fromC (ultraAddPlatform 4294967295 65535 65535 (ones 300) 18446744073709551615 18446744073709551615 255 18446744073709551615 18446744073709551615)
+    ∷ fromC (ultraAddKernel 18446744073709551615 18446744073709551615 18446744073709551615 18446744073709551615 (ones 17) (ones 300) 4294967295 4294967295 (ones 300))
+    ∷ fromC (ultraAddMap (ones 25))
+    ∷ fromC (ultraAddModule 4294967295 (ones 300) 18446744073709551615 18446744073709551615)
+    ∷ []
+
+-- ---- the witness
 -- the additions give the context, and building it gives the bytes, in n bytes
 pub record Built (gs : List Addition) (c : Context) (bytes : List ℕ) (n : ℕ) : Type 0 where
   pub typed : AllTyped (adds gs)
   pub list : contextGiven gs ≡ c
   pub kept : listAfterAll n (adds gs) [] ≡ gs
-  pub built : (b : List ℕ) → length b ≡ n → after (begin ∷ adds gs) b ≡ bytes
-  pub accepted : (b : List ℕ) → length b ≡ n → AllSucceeded (replies (begin ∷ adds gs) b)
+  pub built : (b : List ℕ) → length b ≡ n → after (fromRattle begin ∷ adds gs) b ≡ bytes
+  pub accepted : (b : List ℕ) → length b ≡ n → AllSucceeded (replies (fromRattle begin ∷ adds gs) b)
   pub plain : Plain bytes c
   pub holds : Held bytes c
+
+-- after `everyCall`, in the least buffer and in one of more than 65,536 bytes
+pub record EveryKind : Type 0 where
+  pub typed : AllTyped everyCall
+  pub built : (b : List ℕ) → length b ≡ 640 → bufferNow b everyCall ≡ sixTypesBytes
+  pub long : (b : List ℕ) → length b ≡ 65537 → take 640 (bufferNow b everyCall) ≡ sixTypesBytes
+  -- answers that the list determines: the used length; the last attribute, the end; 5 past the room, and at no multiple of 8 past the used length
+  pub read : (b : List ℕ) → length b ≡ 640 → runAny (fromC ultraRead) (bufferNow b everyCall) .0 ≡ number 640
+  pub last : (b : List ℕ) → length b ≡ 640 → runAny (fromC (ultraStep 5 608)) (bufferNow b everyCall) .0 ≡ number 640
+  pub end : (b : List ℕ) → length b ≡ 65537 → runAny (fromC (ultraStep 6 640)) (bufferNow b everyCall) .0 ≡ number 0
+  pub pastRoom : (b : List ℕ) → length b ≡ 640 → runAny (fromC (ultraStep 0 640)) (bufferNow b everyCall) .0 ≡ number 21474837120
+  pub crooked : (b : List ℕ) → length b ≡ 65537 → runAny (fromC (ultraStep 0 644)) (bufferNow b everyCall) .0 ≡ number 21474837124
+
+-- two attributes
+abbrev pub two : List Addition
+two = take 2 sixAdditions
+
+pub record TwoAreEnough : Type 0 where
+  pub back : (b : List ℕ) → length b ≡ 432 → ReadsBack (bufferNow b (adds two)) two
+  pub through : (b : List ℕ) → length b ≡ 432 → StepsThrough (bufferNow b (adds two)) (contextGiven two)
+
+-- a head of version 2.7 that counts nothing, its reserved bytes 165, and 88 bytes of room
+abbrev pub otherHead : List ℕ
+otherHead = 2 ∷ 7 ∷ 165 ∷ 165 ∷ 0 ∷ 0 ∷ 0 ∷ 0 ∷ junk 88
 
 pub record Witnessed : Type 0 where
   -- "The whole listing of a context with four attributes": used=480
   pub listing : Built listedAdditions listed listedBytes 480
   -- "sizes as written (88, 336, 96, 32, least text size)": 8 + 88 + 336 + 56 + 96 + 24 + 32
   pub six : Built sixAdditions sixTypes sixTypesBytes 640
+  pub every : EveryKind
+  pub widest : AllTyped widestCalls
+  pub enough : TwoAreEnough
+  pub head : (b : List ℕ) → length b ≡ 8 → begun b ≡ (Done 8, 1 ∷ zeros 7)
+  pub headless : (b : List ℕ) → length b ≡ 7 → begun b ≡ (refused SHORT 0, b)
+  pub other : Appended otherHead (contextOf otherHead) (addPlatform (everyPlatformRecord .platform)) (added otherHead (addPlatform (everyPlatformRecord .platform)) .1) 96

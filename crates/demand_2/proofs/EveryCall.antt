@@ -1,0 +1,202 @@
+-- The demand used where its premises end: calls of every kind, the widest arguments, two attributes, a head that another writer began.
+-- Assumes nothing.
+use Prim.Native.Nat.{ℕ, zero, suc, _+_, _%_, _<_, _≤_}
+use mathlib.Core.Path.{_≡_, refl, sym, ap, ap₂, _∙_, subst}
+use mathlib.Core.Bool.{Bool, true, false}
+use mathlib.Core.Logic.{_⊎_.inl, _⊎_.inr}
+use mathlib.Core.List.{List, [], _∷_, _++_}
+use native.Mathlib.Omega.{arith}
+use lib.ListN.{length, getD, take}
+use lib.Seq.{take-all}
+use lib.Dec.{ltb}
+use borrow.Author.Tests.{ltb-true}
+use Rattle.byte_layout.specs.Fields.{cells, filled}
+use Rattle.byte_layout.specs.Stored.{Bytes}
+use Rattle.ultra_format.specs.Contexts.{Context, count, total, used}
+use Rattle.ultra_format.specs.Layouts.{entriesFields, attributesFields, roomOf, written}
+use Rattle.ultra_format.specs.Decoding.{start, typesBefore, contextOf}
+use Rattle.words.specs.Words.{numberAt, numbersAt}
+use Rattle.ultra_format.specs.Members.{every, sizeSuits, kernelValues, moduleValues, bppSuits, framebufferValues, values, asciiText, pathText, texts, ranges, entriesOrdered, ordered, bodyFault}
+use Rattle.ultra_format.specs.Places.{placed, occurs, placeFault}
+use Rattle.ultra_format.specs.Plain.{writtenSize}
+use Rattle.ultra_format.specs.Records.{trimmed}
+use Rattle.ultra_questions.specs.MapQuestion.{numbers}
+use Rattle.ultra_format.specs.Examples.{zeros, sixTypes, sixTypesBytes}
+use Rattle.ultra_format.specs.Additions.{Addition, Addition.addPlatform, entriesGiven, bodyGiven, givenFault}
+use Rattle.ultra_format.proofs.Chains.{both-hold}
+use Rattle.ultra_format.proofs.Decoded.{decoded-only}
+use Rattle.ultra_format.proofs.Witness.{six-types-written}
+use Rattle.ultra_reading.specs.Reading.{headFault, boundsFault, attributesAnswer, usedLength}
+use Rattle.ultra_reading.specs.Stepping.{cursorAt}
+use Rattle.ultra_reading.specs.declared.cursor.Cursor.{Cursor}
+use Rattle.ultra_acceptance.specs.Acceptance.{HeldBy}
+use Rattle.ultra_acceptance.proofs.Acceptance.{accepts-exactly}
+use Rattle.ultra_building.specs.Building.{begun, placementFault, placement, addedMembers, added}
+use Rattle.ultra_format.specs.declared.Answer.the-variants.{Done}
+use Rattle.demand_3.specs.Witness.{everyPlatformRecord, everyKernelRecord, everyEntries, everyLine}
+use Rattle.demand_2.specs.Calls.{Call.add, Call.read, Call.step, Reply.number}
+use Rattle.demand_2.specs.CallsFromC.{CallFromC, CallFromC.ultraRead, CallFromC.ultraStep, AnyCall, AnyCall.fromRattle, AnyCall.fromC, inRattle, runAny, after}
+use Rattle.demand_2.specs.Arguments.{AdditionTyped, Among, AllTyped}
+use Rattle.demand_2.specs.Model.{attributesGiven, contextGiven, typesBehind, giving, listAfterAll, replyTo, anyReply}
+use Rattle.demand_2.specs.Demand2.{Undetermined, StepsThrough, ReadsBack, Appended, adds, bufferNow, listNow}
+use Rattle.demand_2.specs.Witness.{sixAdditions, everyCall, ones, widestCalls, Built, EveryKind, two, TwoAreEnough, otherHead}
+use Rattle.demand_2.proofs.Arguments.{EachTyped, each-typed, typed-none}
+use Rattle.demand_2.proofs.Demand2.{demand-2}
+
+-- ---- arguments of their types
+some-bytes : (l : List ℕ) → every (λ (x : ℕ). ltb x 256) l ≡ true → Bytes l
+unfolding every
+some-bytes [] e i = omega arith
+some-bytes (x ∷ l) e zero = ltb-true x 256 (both-hold (ltb x 256) _ e .0)
+some-bytes (x ∷ l) e (suc i) = some-bytes l (both-hold (ltb x 256) _ e .1) i
+
+ones-bytes : (n : ℕ) → Bytes (ones n)
+ones-bytes zero i = omega arith
+ones-bytes (suc n) zero = omega arith
+ones-bytes (suc n) (suc i) = ones-bytes n i
+
+pub widest : AllTyped widestCalls
+unfolding EachTyped
+widest = each-typed widestCalls
+    (record { kind = omega arith; loaderMajor = omega arith; loaderMinor = omega arith; name = (refl, ones-bytes 32); rsdp = omega arith; higherHalfBase = omega arith; depth = omega arith; dtb = omega arith; smbios = tt }, (record { physicalBase = omega arith; virtualBase = omega arith; size = omega arith; partitionType = omega arith; diskGuid = (refl, ones-bytes 16); partitionGuid = (refl, ones-bytes 16); diskIndex = omega arith; partitionIndex = omega arith; path = (refl, ones-bytes 256) }, ((omega arith, (omega arith, tt)), (record { kind = omega arith; name = (refl, ones-bytes 64); address = omega arith; size = omega arith }, (ones-bytes 9, (record { width = omega arith; height = omega arith; pitch = omega arith; bpp = omega arith; format = omega arith; address = omega arith }, (record { kindTyped = omega arith; majorTyped = omega arith; minorTyped = omega arith; nameTyped = ones-bytes 300; rsdpTyped = omega arith; baseTyped = omega arith; depthTyped = omega arith; dtbTyped = omega arith; smbiosTyped = omega arith }, (record { physicalTyped = omega arith; virtualTyped = omega arith; sizeTyped = omega arith; partitionTypeTyped = omega arith; diskTyped = ones-bytes 17; partitionTyped = ones-bytes 300; diskIndexTyped = omega arith; partitionIndexTyped = omega arith; pathTyped = ones-bytes 300 }, (ones-bytes 25, ((omega arith, ones-bytes 300, omega arith, omega arith), tt))))))))))
+
+-- ---- calls of every kind
+module _ (typed : AllTyped (adds sixAdditions)) where
+  here : (g : Addition) → Among (fromRattle (add g)) (adds sixAdditions) → AdditionTyped g
+  here g a = typed .records (fromRattle (add g)) g a refl
+
+  every-typed : AllTyped everyCall
+  unfolding EachTyped every adds Among
+  every-typed = each-typed everyCall
+      (here _ (inl refl), (record { physicalTyped = omega arith; virtualTyped = omega arith; sizeTyped = omega arith; partitionTypeTyped = omega arith; diskTyped = some-bytes (zeros 16) refl; partitionTyped = some-bytes (zeros 16) refl; diskIndexTyped = omega arith; partitionIndexTyped = omega arith; pathTyped = some-bytes (47 ∷ []) refl }, (tt, (tt, (record { kindTyped = omega arith; majorTyped = omega arith; minorTyped = omega arith; nameTyped = some-bytes (98 ∷ []) refl; rsdpTyped = omega arith; baseTyped = omega arith; depthTyped = omega arith; dtbTyped = omega arith; smbiosTyped = omega arith }, (record { physicalTyped = omega arith; virtualTyped = omega arith; sizeTyped = omega arith; partitionTypeTyped = omega arith; diskTyped = some-bytes (everyKernelRecord .kernel .«disk_guid») refl; partitionTyped = some-bytes (everyKernelRecord .kernel .«partition_guid») refl; diskIndexTyped = omega arith; partitionIndexTyped = omega arith; pathTyped = some-bytes (47 ∷ 107 ∷ 195 ∷ 169 ∷ []) refl }, (some-bytes everyEntries refl, ((omega arith, some-bytes (109 ∷ []) refl, omega arith, omega arith), (some-bytes everyLine refl, (here _ (inr (inr (inr (inr (inr (inl refl)))))), (record { kindTyped = omega arith; majorTyped = omega arith; minorTyped = omega arith; nameTyped = some-bytes [] refl; rsdpTyped = omega arith; baseTyped = omega arith; depthTyped = omega arith; dtbTyped = omega arith; smbiosTyped = omega arith }, (record { kindTyped = omega arith; majorTyped = omega arith; minorTyped = omega arith; nameTyped = some-bytes [] refl; rsdpTyped = omega arith; baseTyped = omega arith; depthTyped = omega arith; dtbTyped = omega arith; smbiosTyped = omega arith }, (here _ (inr (inl refl)), (record { physicalTyped = omega arith; virtualTyped = omega arith; sizeTyped = omega arith; partitionTypeTyped = omega arith; diskTyped = some-bytes [] refl; partitionTyped = some-bytes [] refl; diskIndexTyped = omega arith; partitionIndexTyped = omega arith; pathTyped = some-bytes (47 ∷ []) refl }, ((omega arith, (omega arith, tt)), (some-bytes (0 ∷ []) refl, (here _ (inr (inr (inr (inl refl)))), ((omega arith, some-bytes [] refl, omega arith, omega arith), (some-bytes [] refl, (here _ (inr (inr (inr (inr (inr (inl refl)))))), (tt, (tt, (tt, (tt, (tt, (tt, (tt, (tt, (tt, (tt, (tt, (tt, (tt, (tt, (tt, (tt, (tt, (tt, tt))))))))))))))))))))))))))))))))))))))
+
+-- the list that they leave, in the least room and in the greatest: by computation
+abbrev Lists : ℕ → Type 0
+Lists room = listAfterAll room everyCall [] ≡ sixAdditions
+
+every-list : Lists 640 × Lists 65536
+unfolding listAfterAll giving attributesGiven typesBehind placementFault placeFault placed occurs bodyGiven entriesGiven trimmed writtenSize givenFault bodyFault sizeSuits values kernelValues moduleValues framebufferValues bppSuits texts asciiText pathText every ranges ordered entriesOrdered total numbers numberAt numbersAt
+every-list = (refl, refl)
+
+-- ---- the buffer, and what is answered of it
+module _ (typed : AllTyped (adds sixAdditions)) (context : contextGiven sixAdditions ≡ sixTypes) (b : List ℕ) (room : ℕ) (r : roomOf b ≡ room) (l : Lists room) (long : 8 ≤ length b) where
+  begins : begun b .0 ≡ Done 8
+  begins = demand-2 .begins b long .0
+
+  list-now : listNow b everyCall ≡ sixAdditions
+  list-now = ap (λ (n : ℕ). listAfterAll n everyCall []) r ∙ l
+
+  front : take 640 (bufferNow b everyCall) ≡ sixTypesBytes
+  unfolding total
+  front =
+      subst (λ (c : Context). take (used c) (bufferNow b everyCall) ≡ written c) (ap contextGiven list-now ∙ context) (demand-2 .follows b everyCall begins (every-typed typed) .bytes)
+      ∙ six-types-written
+
+  asks : (k : AnyCall) → (Undetermined room (contextGiven sixAdditions) (inRattle k) → ⊥) → runAny k (bufferNow b everyCall) .0 ≡ anyReply room k sixAdditions
+  asks k n =
+      let q : Undetermined (roomOf b) (contextGiven (listNow b everyCall)) (inRattle k) ≡ Undetermined room (contextGiven sixAdditions) (inRattle k) = λ i. Undetermined (r i) (contextGiven (list-now i)) (inRattle k) in
+      demand-2 .answers b everyCall k begins (every-typed typed) (λ u. n (subst (λ (t : Type 0). t) q u)) ∙ (λ i. anyReply (r i) k (list-now i))
+
+-- ---- calls whose answer the list determines
+same-cursor : (i o : ℕ) (j : Cursor) → step (cursorAt i o) ≡ step j → (j .index ≡ i) × (j .offset ≡ o)
+same-cursor i o j e = let q : j ≡ cursorAt i o = cc in (ap (λ (k : Cursor). k .index) q, ap (λ (k : Cursor). k .offset) q)
+
+six-used : (used (contextGiven sixAdditions) ≡ 640) × (count (contextGiven sixAdditions) ≡ 6)
+unfolding total attributesGiven bodyGiven writtenSize entriesGiven
+six-used = (refl, refl)
+
+determined : (room i o : ℕ) → (i < 6 → 640 ≤ o → o + 8 ≤ room → o % 8 ≡ 0 → ⊥) → Undetermined room (contextGiven sixAdditions) (step (cursorAt i o)) → ⊥
+determined room i o n u =
+    let q = same-cursor i o (u .0) (u .1) in
+    n (omega (arith, q .0, u .3, six-used .1)) (omega (arith, q .1, u .4, six-used .0)) (omega (arith, q .1, u .5)) (ap (λ (k : ℕ). k % 8) (sym (q .1)) ∙ u .6)
+
+no-step : (room : ℕ) → Undetermined room (contextGiven sixAdditions) read → ⊥
+no-step room u = let e = u .1 in let z : _≡_ {A = ℕ} 0 1 = cc in omega arith
+
+abbrev Replied : ℕ → CallFromC → ℕ → Type 0
+Replied room k n = anyReply room (fromC k) sixAdditions ≡ number n
+
+replied : Replied 640 ultraRead 640 × Replied 640 (ultraStep 5 608) 640 × Replied 65536 (ultraStep 6 640) 0 × Replied 640 (ultraStep 0 640) 21474837120 × Replied 65536 (ultraStep 0 644) 21474837124
+unfolding replyTo attributesGiven bodyGiven entriesGiven trimmed writtenSize total cells filled entriesFields attributesFields boundsFault numberAt
+replied = (refl, refl, refl, refl, refl)
+
+pub every-kind : Built sixAdditions sixTypes sixTypesBytes 640 → EveryKind
+every-kind w =
+    record {
+      typed = every-typed (w .typed);
+      built = λ b e.
+          let n = demand-2 .sameLength b everyCall (demand-2 .begins b (omega arith) .0) (every-typed (w .typed)) in
+          sym (take-all 640 (bufferNow b everyCall) (omega arith)) ∙ front (w .typed) (w .list) b 640 (omega arith) (every-list .0) (omega arith);
+      long = λ b e. front (w .typed) (w .list) b 65536 (omega arith) (every-list .1) (omega arith);
+      read = λ b e. least b e (fromC ultraRead) (no-step 640) ∙ replied .0;
+      last = λ b e. least b e (fromC (ultraStep 5 608)) (determined 640 5 608 (λ h i j k. omega arith)) ∙ replied .1;
+      end = λ b e. greatest b e (fromC (ultraStep 6 640)) (determined 65536 6 640 (λ h i j k. omega arith)) ∙ replied .2;
+      pastRoom = λ b e. least b e (fromC (ultraStep 0 640)) (determined 640 0 640 (λ h i j k. omega arith)) ∙ replied .3;
+      crooked = λ b e. greatest b e (fromC (ultraStep 0 644)) (determined 65536 0 644 (λ h i j k. omega arith)) ∙ replied .4;
+    }
+  where
+    least : (b : List ℕ) → length b ≡ 640 → (k : AnyCall) → (Undetermined 640 (contextGiven sixAdditions) (inRattle k) → ⊥) → runAny k (bufferNow b everyCall) .0 ≡ anyReply 640 k sixAdditions
+    least b e = asks (w .typed) (w .list) b 640 (omega arith) (every-list .0) (omega arith)
+
+    greatest : (b : List ℕ) → length b ≡ 65537 → (k : AnyCall) → (Undetermined 65536 (contextGiven sixAdditions) (inRattle k) → ⊥) → runAny k (bufferNow b everyCall) .0 ≡ anyReply 65536 k sixAdditions
+    greatest b e = asks (w .typed) (w .list) b 65536 (omega arith) (every-list .1) (omega arith)
+
+-- ---- two attributes
+module _ (w : AllTyped (adds sixAdditions)) (b : List ℕ) (e : length b ≡ 432) where
+  two-typed : AllTyped (adds two)
+  unfolding EachTyped adds Among
+  two-typed = each-typed (adds two) (here w _ (inl refl), (here w _ (inr (inl refl)), tt))
+
+  two-listed : listAfterAll 432 (adds two) [] ≡ two
+  unfolding listAfterAll adds attributesGiven typesBehind placementFault placeFault placed occurs bodyGiven entriesGiven trimmed writtenSize givenFault bodyFault sizeSuits values kernelValues texts asciiText pathText every ranges ordered total
+  two-listed = refl
+
+  two-now : listNow b (adds two) ≡ two
+  two-now = let r : roomOf b ≡ 432 = omega arith in ap (λ (n : ℕ). listAfterAll n (adds two) []) r ∙ two-listed
+
+  begun-two : begun b .0 ≡ Done 8
+  begun-two = demand-2 .begins b (omega arith) .0
+
+  two-back : ReadsBack (bufferNow b (adds two)) two
+  two-back = subst (ReadsBack (bufferNow b (adds two))) two-now (demand-2 .readsBack b (adds two) begun-two two-typed (rw two-now (omega arith)))
+
+  two-through : StepsThrough (bufferNow b (adds two)) (contextGiven two)
+  two-through =
+      subst (λ (gs : List Addition). StepsThrough (bufferNow b (adds two)) (contextGiven gs)) two-now (demand-2 .steps b (adds two) begun-two two-typed (rw two-now (omega arith)))
+
+pub two-are-enough : AllTyped (adds sixAdditions) → TwoAreEnough
+two-are-enough w = record { back = two-back w; through = two-through w }
+
+-- ---- heads
+pub head : (b : List ℕ) → length b ≡ 8 → begun b ≡ (Done 8, 1 ∷ zeros 7)
+unfolding after listAfterAll attributesGiven attributesFields total cells filled
+head b e =
+    let h = demand-2 .begins b (omega arith) .0 in
+    let n : length (begun b .1) ≡ length b = demand-2 .sameLength b [] h typed-none in
+    let x : take 8 (begun b .1) ≡ 1 ∷ zeros 7 = demand-2 .follows b [] h typed-none .bytes in
+    let y : begun b .1 ≡ 1 ∷ zeros 7 = sym (take-all 8 (begun b .1) (omega arith)) ∙ x in
+    λ i. (h i, y i)
+
+other-bytes : Bytes otherHead
+unfolding every
+other-bytes = some-bytes otherHead refl
+
+other-empty : usedLength 0 otherHead ≡ Done 8
+unfolding usedLength headFault attributesAnswer start numberAt
+other-empty = refl
+
+other-held : HeldBy 0 otherHead (contextOf otherHead)
+other-held =
+    let h = accepts-exactly 0 otherHead 8 other-bytes .0 other-empty in
+    subst (HeldBy 0 otherHead) (decoded-only 0 (roomOf otherHead) otherHead (h .0) (h .1 .0) (h .1 .1)) (h .1)
+
+abbrev anyPlatform : Addition
+anyPlatform = addPlatform (everyPlatformRecord .platform)
+
+other-answered : added otherHead anyPlatform .0 ≡ Done 96
+unfolding addedMembers placement usedLength headFault attributesAnswer start typesBefore numberAt placementFault placeFault placed occurs bodyGiven trimmed writtenSize givenFault bodyFault sizeSuits values texts asciiText every ranges ordered
+other-answered = refl
+
+pub other : AllTyped (adds sixAdditions) → Appended otherHead (contextOf otherHead) anyPlatform (added otherHead anyPlatform .1) 96
+unfolding adds Among
+other w = demand-2 .appends otherHead (contextOf otherHead) anyPlatform 96 other-held (here w anyPlatform (inl refl)) other-answered
