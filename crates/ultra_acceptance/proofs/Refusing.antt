@@ -73,7 +73,7 @@ module _ (fewest : ℕ) (b : List ℕ) where
 
 -- ---- the statements
 pub refuses-exactly : RefusesExactly
-refuses-exactly fewest b n o = (to-refuse fewest b n o, is-refused fewest b n o)
+refuses-exactly fewest b r = (to-refuse fewest b (r .number) (r .offset), is-refused fewest b (r .number) (r .offset))
 
 refused-alike : (v : Version) (a : Answer) (r : Refusal) → withVersion v a ≡ reading.Refused r → a ≡ Refused r
 refused-alike v (Done n) r e = absurd (let z : _≡_ {A = ℕ} 0 1 = cc in omega arith)
@@ -81,6 +81,6 @@ refused-alike v (Refused q) r e = cc
 
 pub reading-refuses : ReadingRefuses
 unfolding readingOf
-reading-refuses b n o =
-    let x = refuses-exactly 2 b n o in
-    (λ e. x .0 (refused-alike (versionOf b) (usedLength 2 b) _ e), λ r. ap (withVersion (versionOf b)) (x .1 r))
+reading-refuses b r =
+    let x = refuses-exactly 2 b r in
+    (λ e. x .0 (refused-alike (versionOf b) (usedLength 2 b) r e), λ t. ap (withVersion (versionOf b)) (x .1 t))

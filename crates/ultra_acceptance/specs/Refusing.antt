@@ -10,13 +10,15 @@ use mathlib.Core.Bool.{true, false}
 use mathlib.Core.List.{List}
 use lib.ListN.{getD}
 use Rattle.ultra_format.specs.Refusals.{SHORT, VERSION, COUNT, MISSING, HEADER, SIZE, OVERRUN, TYPE, PLACE, REPEAT, SPLIT, FORM, VALUE, TEXT, RANGE, ORDER}
-use Rattle.ultra_format.specs.Answers.{refusal, refused}
+use Rattle.ultra_format.specs.Answers.{numberOf, valueOf}
 use Rattle.ultra_format.specs.Contexts.{Body}
 use Rattle.ultra_format.specs.Layouts.{roomOf}
 use Rattle.ultra_format.specs.Members.{sizeSuits, values, texts, ranges, ordered}
 use Rattle.ultra_format.specs.Places.{single, repeatable}
 use Rattle.ultra_format.specs.Decoding.{start, storedType, storedSize, storedCount, storedAttribute}
-use Rattle.ultra_reading.specs.Reading.{usedLength, readingOf}
+use Rattle.ultra_format.specs.declared.Refusal.{Refusal}
+use Rattle.ultra_format.specs.declared.Answer.the-variants.{Refused}
+use Rattle.ultra_reading.specs.Reading.{usedLength, readingOf, readingNumber, readingValue}
 use Rattle.ultra_reading.specs.declared.Reading.the-variants as reading
 
 -- ---- the table
@@ -86,10 +88,12 @@ pub data Refuses (fewest : ℕ) (b : List ℕ) (n : ℕ) : ℕ → Type 0 where
   attribute : NoneBreaks (HeadBreaks fewest b) → (i : ℕ) → i < storedCount b → ClearBefore b i → Least (Breaks b i) n → Refuses fewest b n (start b i)
 
 -- ---- the statements
--- a number and an offset are answered exactly where the table says so, with every lower limit of the count, so where adding reads too
+-- a number and an offset are answered exactly where the table says so, with every lower limit of the count, so where adding reads too.
+-- Both are 01's number and value of the answer. It is over whole refusals: with one more member in a refusal, which the table left open,
+-- it would be false
 abbrev pub RefusesExactly : Type 0
-RefusesExactly = (fewest : ℕ) (b : List ℕ) (n o : ℕ) → (usedLength fewest b ≡ refused n o) ↔ Refuses fewest b n o
+RefusesExactly = (fewest : ℕ) (b : List ℕ) (r : Refusal) → (usedLength fewest b ≡ Refused r) ↔ Refuses fewest b (numberOf (Refused r)) (valueOf (Refused r))
 
 -- and by the reading call, with "count below 2"
 abbrev pub ReadingRefuses : Type 0
-ReadingRefuses = (b : List ℕ) (n o : ℕ) → (readingOf b ≡ reading.Refused (refusal n o)) ↔ Refuses 2 b n o
+ReadingRefuses = (b : List ℕ) (r : Refusal) → (readingOf b ≡ reading.Refused r) ↔ Refuses 2 b (readingNumber (reading.Refused r)) (readingValue (reading.Refused r))

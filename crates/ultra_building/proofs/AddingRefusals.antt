@@ -12,7 +12,7 @@ use lib.Dec.{leb, ltb, eqb}
 use borrow.Author.Tests.{lt-leb, leb-false, ltb-true, ltb-false, eqb-true, eqb-false, eq-eqb, ne-eqb}
 use Rattle.byte_layout.specs.Stored.{Bytes}
 use Rattle.ultra_format.specs.Refusals.{unless, firstOf, PLACE, REPEAT, SPLIT, FORM, VALUE, TEXT, RANGE, ORDER, FULL, ROOM}
-use Rattle.ultra_format.specs.Answers.{refused, numberOf, valueOf}
+use Rattle.ultra_format.specs.Answers.{refusal, refused, numberOf, valueOf}
 use Rattle.ultra_format.specs.Contexts.{Member, Platform, Body, typeOf, Context, count, typeAt, used}
 use Rattle.ultra_format.specs.Contexts.{Member.present, Member.absent, Body.platform, Body.kernel, Body.memoryMap, Body.moduleInfo, Body.commandLine, Body.framebuffer, Body.other}
 use Rattle.ultra_format.specs.Layouts.{roomOf}
@@ -246,7 +246,7 @@ module _ (b : List ℕ) (ok : Bool) (given : Body) where
 
   to-refuse : (n o : ℕ) → Bytes b → addedMembers b ok given .0 ≡ refused n o → AddRefused b ok given n o
   to-refuse n o y e =
-      ⊎-elim (λ u. reading o (refuses-exactly 0 b n o .0 (u .1 ∙ sym (unread (u .0) (u .1)) ∙ e)))
+      ⊎-elim (λ u. reading o (refuses-exactly 0 b (refusal n o) .0 (u .1 ∙ sym (unread (u .0) (u .1)) ∙ e)))
       (λ h. ⊎-elim (λ d. clash (d .0) e) (λ r. same (h .0) (h .1) (r .0) (r .2) (sym (r .1) ∙ e)) (outcome (h .0) (h .1))) (read-or y)
     where
       same : (c : Context) → HeldBy 0 b c → (k : ℕ) → FirstBroken (Broken c) k → refused k (used c) ≡ refused n o → AddRefused b ok given n o
@@ -256,7 +256,7 @@ module _ (b : List ℕ) (ok : Bool) (given : Body) where
           rw (← z, ← x) (adding c h f)
 
   is-refused : (n o : ℕ) → AddRefused b ok given n o → addedMembers b ok given .0 ≡ refused n o
-  is-refused n o (reading p r) = unread _ (refuses-exactly 0 b n p .1 r)
+  is-refused n o (reading p r) = unread _ (refuses-exactly 0 b (refusal n p) .1 r)
   is-refused n o (adding c h f) =
       ⊎-elim (λ d. absurd (d .1 n (f .0)))
       (λ r. r .1 ∙ ap (λ (k : ℕ). refused k (used c)) (first-only (λ m x. omega (arith, in-adding (roomOf b) c ok given m x .0)) (r .2) f)) (outcome c h)
