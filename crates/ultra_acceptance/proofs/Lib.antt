@@ -4,3 +4,4 @@ pub mod Acceptance
 pub mod Least
 pub mod Rows
 pub mod Refusing
+pub mod Steps

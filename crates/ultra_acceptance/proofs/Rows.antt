@@ -11,6 +11,7 @@ use native.Mathlib.Nat.{not-suc-le-zero}
 use lib.ListN.{length, getD}
 use lib.Dec.{leb, eqb}
 use borrow.Author.Tests.{leb-true, leb-false, lt-leb, eqb-true, eqb-false, eq-eqb, ne-eqb, not-true, not-false}
+use Rattle.words.specs.Words.{u32At}
 use Rattle.ultra_format.specs.Refusals.{SHORT, VERSION, COUNT, MISSING, HEADER, SIZE, OVERRUN, TYPE, PLACE, REPEAT, SPLIT, FORM, VALUE, TEXT, RANGE, ORDER}
 use Rattle.ultra_format.specs.Layouts.{roomOf}
 use Rattle.ultra_format.specs.Members.{sizeSuits, values, texts, ranges, ordered, bodyFault}
@@ -125,34 +126,40 @@ module _ (b : List ℕ) (i t : ℕ) where
       (link _ (λ e. s .1 (is-parted e)) (λ x. on-parted (s .0 x))
       ends))
 
+-- ---- 5 to 8, of the attribute at o
+module _ (b : List ℕ) (o : ℕ) where
+  abbrev sizeThere : ℕ
+  sizeThere = u32At b (o + 4)
+
+  off-size : leb 8 sizeThere ≡ true → eqb (sizeThere % 8) 0 ≡ true → (sizeThere < 8) ⊎ (sizeThere % 8 ≡ 0 → ⊥) → ⊥
+  off-size e q = let l = leb-true 8 sizeThere e in ⊎-elim (λ h. omega arith) (λ n. n (eqb-true _ _ q))
+
+  pub bounds-chain : {breaks : ℕ → Type 0} → (breaks HEADER ↔ (roomOf b < o + 8)) → (breaks SIZE ↔ ((sizeThere < 8) ⊎ (sizeThere % 8 ≡ 0 → ⊥))) → (breaks OVERRUN ↔ (roomOf b < o + sizeThere)) → (breaks TYPE ↔ (u32At b o ≡ 0))
+      → Chain breaks 5 9 (boundsFault b (roomOf b) o)
+  unfolding boundsFault
+  bounds-chain x y z t =
+      link _ (λ e. x .1 (leb-false _ _ e)) (λ r. lt-leb (o + 8) (roomOf b) (x .0 r))
+      (try (leb 8 sizeThere) (λ e. y .1 (inl (leb-false _ _ e))) (λ e.
+      try (eqb (sizeThere % 8) 0) (λ q. y .1 (inr (eqb-false _ _ q))) (λ q.
+      past (λ r. off-size e q (y .0 r))
+      (link _ (λ e. z .1 (leb-false _ _ e)) (λ r. lt-leb (o + sizeThere) (roomOf b) (z .0 r))
+      (link _ (λ e. t .1 (eqb-true _ _ (not-false _ e))) (λ r. ap not (eq-eqb (u32At b o) 0 (t .0 r)))
+      ends)))))
+
 -- ---- 5 to 16, attribute i
 module _ (b : List ℕ) (i : ℕ) where
   -- 5 to 8
-  on-header : Breaks b i HEADER → leb (start b i + 8) (roomOf b) ≡ false
-  on-header (header h) = lt-leb (start b i + 8) (roomOf b) h
+  of-header : Breaks b i HEADER → roomOf b < start b i + 8
+  of-header (header h) = h
 
-  off-size : leb 8 (storedSize b i) ≡ true → eqb (storedSize b i % 8) 0 ≡ true → Breaks b i SIZE → ⊥
-  off-size e q (size h) =
-      let l = leb-true 8 (storedSize b i) e in
-      let m = eqb-true (storedSize b i % 8) 0 q in
-      ⊎-elim (λ s. omega arith) (λ n. omega arith) h
+  of-size : Breaks b i SIZE → (storedSize b i < 8) ⊎ (storedSize b i % 8 ≡ 0 → ⊥)
+  of-size (size h) = h
 
-  on-overrun : Breaks b i OVERRUN → leb (start b i + storedSize b i) (roomOf b) ≡ false
-  on-overrun (overrun h) = lt-leb (start b i + storedSize b i) (roomOf b) h
+  of-overrun : Breaks b i OVERRUN → roomOf b < start b i + storedSize b i
+  of-overrun (overrun h) = h
 
-  on-untyped : Breaks b i TYPE → not (eqb (storedType b i) 0) ≡ false
-  on-untyped (untyped e) = ap not (eq-eqb (storedType b i) 0 e)
-
-  bounds-chain : Chain (Breaks b i) 5 9 (boundsFault b (roomOf b) (start b i))
-  unfolding boundsFault
-  bounds-chain =
-      link _ (λ e. header (leb-false _ _ e)) on-header
-      (try (leb 8 (storedSize b i)) (λ e. size (inl (leb-false _ _ e))) (λ e.
-      try (eqb (storedSize b i % 8) 0) (λ q. size (inr (eqb-false _ _ q))) (λ q.
-      past (off-size e q)
-      (link _ (λ e. overrun (leb-false _ _ e)) on-overrun
-      (link _ (λ e. untyped (eqb-true _ _ (not-false _ e))) on-untyped
-      ends)))))
+  of-untyped : Breaks b i TYPE → storedType b i ≡ 0
+  of-untyped (untyped e) = e
 
   -- 9 to 11
   of-place : Breaks b i PLACE → Misplaced i (storedType b i)
@@ -196,7 +203,8 @@ module _ (b : List ℕ) (i : ℕ) where
   -- all of them
   attribute-chain : Chain (Breaks b i) 5 17 (faultOf b (roomOf b) i)
   unfolding attributeFault
-  attribute-chain = then _ _ bounds-chain (then _ _ types-chain body-chain)
+  attribute-chain =
+      then _ _ (bounds-chain b (start b i) (of-header, header) (of-size, size) (of-overrun, overrun) (of-untyped, untyped)) (then _ _ types-chain body-chain)
 
   in-attribute : (m : ℕ) → Breaks b i m → (5 ≤ m) × (m < 17)
   in-attribute m (header h) = (omega arith, omega arith)
