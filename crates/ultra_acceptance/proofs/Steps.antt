@@ -212,5 +212,5 @@ stepping-through b c h =
     record {
       first = refl;
       each = step-listed b c h;
-      past = λ k l. sym (step-end b k (head-passed b c h) (omega (arith, says b c h .count)));
+      ends = λ k. (λ e. omega (arith, says b c h .count, to-end b k e .1), λ l. sym (step-end b k (head-passed b c h) (omega (arith, says b c h .count))));
     }

@@ -75,7 +75,8 @@ pub record StepsThrough (b : List ℕ) (c : Context) : Type 0 where
   -- "the first is 0 and 8"
   pub first : cursorOf c 0 ≡ record { index = 0; offset = 8 }
   pub each : (i : ℕ) → i < count c → stepOf b (cursorOf c i) ≡ Attribute (record { kind = typeAt c i; start = startIn (c .attributes) i; size = sizeAt c i }) (cursorOf c (i + 1))
-  pub past : (k : Cursor) → count c ≤ k .index → stepOf b k ≡ End
+  -- "answers the end if the index is at or past the count", and else not
+  pub ends : (k : Cursor) → (stepOf b k ≡ End) ↔ (count c ≤ k .index)
 
 -- whichever context a buffer holds, whoever wrote it
 abbrev pub SteppingThrough : Type 0
