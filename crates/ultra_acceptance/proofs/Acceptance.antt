@@ -194,7 +194,7 @@ unfolding attributesAnswer
 attributes-number b room i zero r e z = let w : _≡_ {A = ℕ} 0 1 = cc in omega arith
 attributes-number b room i (suc n) r e z = refusal-number (faultOf b room i) (start b i) _ r (attributes-number b room (suc i) n r) e z
 
-used-number : (fewest : ℕ) (b : List ℕ) (r : Refusal) → usedLength fewest b ≡ Refused r → r .number ≡ 0 → ⊥
+pub used-number : (fewest : ℕ) (b : List ℕ) (r : Refusal) → usedLength fewest b ≡ Refused r → r .number ≡ 0 → ⊥
 unfolding usedLength
 used-number fewest b r e z = refusal-number (headFault fewest b) 0 _ r (attributes-number b (roomOf b) 0 (storedCount b) r) e z
 

@@ -30,12 +30,12 @@ use Rattle.ultra_reading.specs.Reading.{usedLength}
 use Rattle.ultra_reading.proofs.PlaceLaws.{length-types}
 use Rattle.ultra_acceptance.specs.Acceptance.{HeldBy}
 use Rattle.ultra_acceptance.specs.Refusing.{NoneBreaks, Least}
-use Rattle.ultra_acceptance.proofs.Acceptance.{accepts-exactly}
+use Rattle.ultra_acceptance.proofs.Acceptance.{accepts-exactly, used-number}
 use Rattle.ultra_acceptance.proofs.Least.{Chain, ends, try, past as beyond, link, then, settled}
 use Rattle.ultra_acceptance.proofs.Refusing.{refuses-exactly}
 use Rattle.ultra_acceptance.proofs.Rows.{Misplaced, Earlier, Repeated, Parted, place-chain}
 use Rattle.ultra_building.specs.Building.{placementFault, placement, addedAt, addedMembers}
-use Rattle.ultra_building.specs.AddingRefusals.{Occurs, Incomplete, AdditionBreaks, rank, FirstBroken, AddRefused, AddingRefuses, AddingSucceeds}
+use Rattle.ultra_building.specs.AddingRefusals.{Occurs, Incomplete, AdditionBreaks, rank, FirstBroken, AddRefused, AddingRefuses, RefusedAddKeeps, AddingSucceeds}
 use Rattle.ultra_building.specs.AddingRefusals.{AdditionBreaks.full, AdditionBreaks.first, AdditionBreaks.second, AdditionBreaks.later, AdditionBreaks.repeat, AdditionBreaks.split}
 use Rattle.ultra_building.specs.AddingRefusals.{AdditionBreaks.unformed, AdditionBreaks.incomplete, AdditionBreaks.value, AdditionBreaks.text, AdditionBreaks.range, AdditionBreaks.order, AdditionBreaks.past}
 use Rattle.ultra_building.specs.AddingRefusals.{AddRefused.reading, AddRefused.adding}
@@ -264,27 +264,28 @@ module _ (b : List ℕ) (ok : Bool) (given : Body) where
   abbrev Succeeds : ℕ → Type 0
   Succeeds m = (c : Context) × HeldBy 0 b c × NoneBreaks (Broken c) × (m ≡ used c + writtenSize given)
 
-  to-succeed : (m : ℕ) → Bytes b → addedMembers b ok given .0 ≡ Done m → Succeeds m
-  to-succeed m y e =
-      ⊎-elim (λ u. clash e (unread (u .0) (u .1)))
-      (λ h. ⊎-elim (λ d. (h .0, h .1, d .1, ap valueOf (sym e ∙ d .0))) (λ r. clash e (r .1)) (outcome (h .0) (h .1))) (read-or y)
+  to-succeed : (m : ℕ) → Bytes b → numberOf (addedMembers b ok given .0) ≡ 0 → valueOf (addedMembers b ok given .0) ≡ m → Succeeds m
+  to-succeed m y z v =
+      ⊎-elim (λ u. absurd (used-number 0 b (u .0) (u .1) (ap numberOf (sym (unread (u .0) (u .1))) ∙ z)))
+      (λ h. ⊎-elim (λ d. (h .0, h .1, d .1, sym v ∙ ap valueOf (d .0)))
+      (λ r. absurd (omega (arith, ap numberOf (r .1), in-adding (roomOf b) (h .0) ok given (r .0) (r .2 .0) .0))) (outcome (h .0) (h .1))) (read-or y)
 
   is-done : (m : ℕ) → Succeeds m → addedMembers b ok given .0 ≡ Done m
   is-done m d = ⊎-elim (λ a. a .0 ∙ ap Done (sym (d .3))) (λ r. absurd (d .2 (r .0) (r .2 .0))) (outcome (d .0) (d .1))
 
-  -- a refusal leaves the buffer as it was
-  kept : (r : Refusal) → addedMembers b ok given .0 ≡ Refused r → addedMembers b ok given ≡ (Refused r, b)
-  unfolding addedMembers
-  kept r e = go (placement b (typeOf given) (givenFault ok given) (writtenSize given)) e
-    where
-      go : (p : Answer) → addedAt b given p .0 ≡ Refused r → addedAt b given p ≡ (Refused r, b)
-      go (Done m) w = absurd (let z : _≡_ {A = ℕ} 0 1 = cc in omega arith)
-      go (Refused s) w = ap (λ (a : Answer). (a, b)) w
-
 -- ---- the statements
 pub adding-refuses : AddingRefuses
-adding-refuses b ok given n o y =
-    (λ e. to-refuse b ok given n o y (ap (λ (r : Answer × List ℕ). r .0) e), λ r. kept b ok given _ (is-refused b ok given n o r))
+adding-refuses b ok given r y = (to-refuse b ok given (r .number) (r .offset) y, is-refused b ok given (r .number) (r .offset))
+
+-- a refusal leaves the buffer as it was
+pub refused-add-keeps : RefusedAddKeeps
+unfolding addedMembers
+refused-add-keeps b ok given r e = go (placement b (typeOf given) (givenFault ok given) (writtenSize given)) e
+  where
+    go : (p : Answer) → addedAt b given p .0 ≡ Refused r → addedAt b given p .1 ≡ b
+    go (Done m) w = absurd (let z : _≡_ {A = ℕ} 0 1 = cc in omega arith)
+    go (Refused s) w = refl
 
 pub adding-succeeds : AddingSucceeds
-adding-succeeds b ok given m y = (to-succeed b ok given m y, is-done b ok given m)
+adding-succeeds b ok given m y =
+    (λ e. to-succeed b ok given m y (e .0) (e .1), λ d. let e = is-done b ok given m d in (ap numberOf e, ap valueOf e))

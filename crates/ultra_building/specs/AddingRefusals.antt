@@ -2,7 +2,7 @@
 -- number, and leaves the buffer as it was; where it gives none it answers the new used length. They speak of members given, formed or
 -- not (`addedMembers`), and so of the calls toward C; an add of a record is one of its members (`added`). For 13 to 16 the conditions are
 -- the tests of Members on the members, which the rules ask too. Proved in proofs/AddingRefusals.antt: `adding-refuses`,
--- `adding-succeeds`. Of a buffer only that its elements are bytes is assumed.
+-- `refused-add-keeps`, `adding-succeeds`. Of a buffer only that its elements are bytes is assumed.
 -- Assumes nothing else.
 use Prim.Native.Nat.{ℕ, _+_, _-_, _≤_, _<_}
 use mathlib.Core.Path.{_≡_}
@@ -12,7 +12,7 @@ use mathlib.Core.List.{List}
 use lib.Dec.{eqb}
 use Rattle.byte_layout.specs.Stored.{Bytes}
 use Rattle.ultra_format.specs.Refusals.{PLACE, REPEAT, SPLIT, FORM, VALUE, TEXT, RANGE, ORDER, FULL, ROOM}
-use Rattle.ultra_format.specs.Answers.{refused}
+use Rattle.ultra_format.specs.Answers.{numberOf, valueOf}
 use Rattle.ultra_format.specs.Contexts.{Platform, Body, typeOf, Context, count, typeAt, used}
 use Rattle.ultra_format.specs.Contexts.{Member.absent, Body.platform}
 use Rattle.ultra_format.specs.Layouts.{roomOf}
@@ -20,7 +20,8 @@ use Rattle.ultra_format.specs.Members.{values, texts, ranges, ordered}
 use Rattle.ultra_format.specs.Places.{single, repeatable}
 use Rattle.ultra_format.specs.Decoding.{pick}
 use Rattle.ultra_format.specs.Plain.{writtenSize}
-use Rattle.ultra_format.specs.declared.Answer.the-variants.{Done}
+use Rattle.ultra_format.specs.declared.Refusal.{Refusal}
+use Rattle.ultra_format.specs.declared.Answer.the-variants.{Refused}
 use Rattle.ultra_acceptance.specs.Acceptance.{HeldBy}
 use Rattle.ultra_acceptance.specs.Refusing.{NoneBreaks, Refuses}
 use Rattle.ultra_building.specs.Building.{addedMembers}
@@ -76,13 +77,19 @@ pub data AddRefused (b : List ℕ) (formed : Bool) (given : Body) (n : ℕ) : �
   adding : (c : Context) → HeldBy 0 b c → FirstBroken (AdditionBreaks (roomOf b) c formed given) n → AddRefused b formed given n (used c)
 
 -- ---- the statements
+-- over whole refusals, as RefusesExactly is (crate ultra_acceptance)
 abbrev pub AddingRefuses : Type 0
 AddingRefuses =
-    (b : List ℕ) (formed : Bool) (given : Body) (n o : ℕ) → Bytes b
-    → (addedMembers b formed given ≡ (refused n o, b)) ↔ AddRefused b formed given n o
+    (b : List ℕ) (formed : Bool) (given : Body) (r : Refusal) → Bytes b
+    → (addedMembers b formed given .0 ≡ Refused r) ↔ AddRefused b formed given (numberOf (Refused r)) (valueOf (Refused r))
 
+-- "the buffer and all lent memory are unchanged"
+abbrev pub RefusedAddKeeps : Type 0
+RefusedAddKeeps = (b : List ℕ) (formed : Bool) (given : Body) (r : Refusal) → addedMembers b formed given .0 ≡ Refused r → addedMembers b formed given .1 ≡ b
+
+-- "0 is success, with the used length after it"
 abbrev pub AddingSucceeds : Type 0
 AddingSucceeds =
     (b : List ℕ) (formed : Bool) (given : Body) (m : ℕ) → Bytes b
-    → (addedMembers b formed given .0 ≡ Done m)
+    → ((numberOf (addedMembers b formed given .0) ≡ 0) × (valueOf (addedMembers b formed given .0) ≡ m))
     ↔ ((c : Context) × HeldBy 0 b c × NoneBreaks (AdditionBreaks (roomOf b) c formed given) × (m ≡ used c + writtenSize given))
