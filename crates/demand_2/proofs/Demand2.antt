@@ -21,17 +21,20 @@ use Rattle.ultra_format.specs.Additions.{bodyGiven, formed, givenFault}
 use Rattle.ultra_format.specs.declared.Answer.{Answer}
 use Rattle.ultra_format.specs.declared.Answer.the-variants.{Done, Refused}
 use Rattle.ultra_building.specs.Building.{emptyHead, begun, placement, addedAt, addedMembers}
+use Rattle.ultra_acceptance.specs.Acceptance.{HeldBy}
+use Rattle.ultra_acceptance.specs.Steps.{StepsThrough}
+use Rattle.ultra_acceptance.proofs.Steps.{stepping-through}
 use Rattle.demand_2.specs.Calls.{membersFormed, membersBody, Call, run}
 use Rattle.demand_2.specs.CallsFromC.{AnyCall, inRattle, runAny}
 use Rattle.demand_2.specs.Arguments.{AllTyped}
 use Rattle.demand_2.specs.Calls.{Call.begin, Call.add, Call.addMembers, Call.read, Call.step, Call.askAttribute, Call.askStart, Call.askPart, Call.copyMap, Call.copyMapBytes, Call.askLine, Call.locateLine, Call.askModule, Call.list, Call.askListingLength}
 use Rattle.demand_2.specs.Calls.{Reply.answer}
 use Rattle.demand_2.specs.Model.{contextGiven, listAfterAll, anyReply}
-use Rattle.demand_2.specs.Demand2.{Follows, Undetermined, StepsThrough, ReadsBack, bufferNow, listNow, Demand2}
+use Rattle.demand_2.specs.Demand2.{Follows, Undetermined, ReadsBack, bufferNow, listNow, Demand2}
 use Rattle.demand_2.proofs.Appending.{appends}
 use Rattle.demand_2.proofs.Following.{Keeps, length-given, begun-is, begin-follows, crosses, same-room, follows-all}
 use Rattle.demand_2.proofs.GivenMembers.{as-record}
-use Rattle.demand_2.proofs.Replies.{held-two, steps-through, any-reply}
+use Rattle.demand_2.proofs.Replies.{held-two, any-reply}
 use Rattle.demand_2.proofs.ReadingBack.{reads-back}
 use Rattle.demand_2.proofs.Rebuilding.{rebuilds}
 
@@ -69,11 +72,14 @@ module _ (b : List ℕ) (ks : List AnyCall) (e : begun b .0 ≡ Done 8) (y : All
   follows : Follows (bufferNow b ks) (listNow b ks)
   follows = kept .0 .follows
 
+  two : 2 ≤ length (listNow b ks) → HeldBy 2 (bufferNow b ks) (contextGiven (listNow b ks))
+  two h = held-two (bufferNow b ks) (listNow b ks) follows (omega (arith, length-given (listNow b ks)))
+
   steps : 2 ≤ length (listNow b ks) → StepsThrough (bufferNow b ks) (contextGiven (listNow b ks))
-  steps h = steps-through (bufferNow b ks) (listNow b ks) follows (omega (arith, length-given (listNow b ks)))
+  steps h = stepping-through (bufferNow b ks) (contextGiven (listNow b ks)) (two h)
 
   reads : 2 ≤ length (listNow b ks) → ReadsBack (bufferNow b ks) (listNow b ks)
-  reads h = reads-back (bufferNow b ks) (listNow b ks) (held-two (bufferNow b ks) (listNow b ks) follows (omega (arith, length-given (listNow b ks)))) (kept .0 .added)
+  reads h = reads-back (bufferNow b ks) (listNow b ks) (two h) (kept .0 .added)
 
 answers : (b : List ℕ) (ks : List AnyCall) (k : AnyCall) → begun b .0 ≡ Done 8 → AllTyped ks
     → (Undetermined (roomOf b) (contextGiven (listNow b ks)) (inRattle k) → ⊥)

@@ -34,11 +34,12 @@ use Rattle.ultra_acceptance.proofs.Acceptance.{accepts-exactly}
 use Rattle.ultra_building.specs.Building.{begun, placementFault, placement, addedMembers, added}
 use Rattle.ultra_format.specs.declared.Answer.the-variants.{Done}
 use Rattle.demand_3.specs.Witness.{everyPlatformRecord, everyKernelRecord, everyEntries, everyLine}
+use Rattle.ultra_acceptance.specs.Steps.{StepsThrough}
 use Rattle.demand_2.specs.Calls.{Call.add, Call.read, Call.step, Reply.number}
 use Rattle.demand_2.specs.CallsFromC.{CallFromC, CallFromC.ultraRead, CallFromC.ultraStep, AnyCall, AnyCall.fromRattle, AnyCall.fromC, inRattle, runAny, after}
 use Rattle.demand_2.specs.Arguments.{AdditionTyped, Among, AllTyped}
 use Rattle.demand_2.specs.Model.{attributesGiven, contextGiven, typesBehind, giving, listAfterAll, replyTo, anyReply}
-use Rattle.demand_2.specs.Demand2.{Undetermined, StepsThrough, ReadsBack, Appended, adds, bufferNow, listNow}
+use Rattle.demand_2.specs.Demand2.{Undetermined, ReadsBack, Appended, adds, bufferNow, listNow}
 use Rattle.demand_2.specs.Witness.{sixAdditions, everyCall, ones, widestCalls, Built, EveryKind, two, TwoAreEnough, otherHead}
 use Rattle.demand_2.proofs.Arguments.{EachTyped, each-typed, typed-none}
 use Rattle.demand_2.proofs.Demand2.{demand-2}

@@ -54,7 +54,7 @@ use Rattle.demand_2.specs.Calls.{Reply.answer, Reply.reading, Reply.step
 use Rattle.demand_2.specs.CallsFromC.{replyCrossed, AnyCall, inRattle, runAny}
 use Rattle.demand_2.specs.CallsFromC.{AnyCall.fromRattle, AnyCall.fromC}
 use Rattle.demand_2.specs.Model.{contextGiven, membersRefusal, refusalOf, giving, addAnswer, tooFew, stepWithin, stepIn, partIn, mapReply, replyTo, anyReply, attributesGiven}
-use Rattle.demand_2.specs.Demand2.{Follows, Undetermined, StepsThrough}
+use Rattle.demand_2.specs.Demand2.{Follows, Undetermined}
 use Rattle.demand_2.proofs.Appending.{says-type}
 use Rattle.demand_2.proofs.Following.{says-given, begun-is, long, added-is, used-more, crosses}
 use Rattle.demand_2.proofs.GivenMembers.{members-size}
@@ -177,35 +177,6 @@ module _ (d : List ℕ) (gs : List Addition) (f : Follows d gs) where
           → pick t stepping.End (stepFrom d k) ≡ pick t stepping.End (stepWithin (roomOf d) (written now) k)
       go two true e = refl
       go two false e = step-within k two (leb-false (count now) (k .index) e) n
-
-  -- at the list's own cursors
-  step-stored : 2 ≤ count now → (i : ℕ) → i < storedCount d → stepOf d (cursorAt i (start d i)) ≡ stepping.Attribute (headerAt d (start d i)) (cursorAt (i + 1) (start d (i + 1)))
-  unfolding start
-  step-stored l i k =
-      let p = accepts .each i k .bounds in
-      let w = start-eights i (omega arith) in
-      let s = only-bounds d (start d i) (start-least i) w in
-      let q = bounds-pass d (roomOf d) (start d i) (p .header) (p .least) (p .eights) (p .within) (p .typed) in
-      let e : start d (i + 1) ≡ start d i + u32At d (start d i + 4) = ap (start d) (add-one i) in
-      rw e (sym (step-next d (cursorAt i (start d i)) (head-enough 2 l) k (sym (q ∙ s))))
-    where
-      start-least : (i : ℕ) → 8 ≤ start d i
-      start-least zero = omega arith
-      start-least (suc i) = omega (arith, start-least i)
-
-  pub steps-through : 2 ≤ count now → StepsThrough d now
-  unfolding run stepOf
-  steps-through l =
-      record {
-        each = λ i h.
-            let s = says-given d gs f in
-            let k : i < storedCount d = omega (arith, counts) in
-            let here = starts d now s i (omega arith) in
-            let next = starts d now s (i + 1) (omega arith) in
-            let size : u32At d (start d i + 4) ≡ sizeAt now i = rw here (s .stored i h .size) in
-            ap stepped (rw (← here, ← next, ← (says-type d now s i h), ← size) (step-stored l i k));
-        past = λ i o h. ap stepped (rw (head-enough 2 l, counts, le-leb (count now) i h));
-      }
 
   -- ---- the listing
   listed-given : linesOf d ≡ pick (leb 2 (count now)) (contextLines now) (refusedLines (refusal MISSING 0))

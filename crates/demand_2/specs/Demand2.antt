@@ -18,7 +18,7 @@ use lib.ListN.{length, getD, take}
 use lib.Dec.{eqb}
 use Rattle.ultra_format.specs.Refusals.{SHORT, COUNT}
 use Rattle.ultra_format.specs.Answers.{refused, numberOf}
-use Rattle.ultra_format.specs.Contexts.{Context, count, typeAt, sizeAt, startIn, used}
+use Rattle.ultra_format.specs.Contexts.{Context, count, used}
 use Rattle.byte_layout.specs.Fields.{cells, SilentAt}
 use Rattle.ultra_format.specs.Layouts.{attributeFields, roomOf, written}
 use Rattle.ultra_format.specs.Plain.{Plain}
@@ -29,11 +29,10 @@ use Rattle.ultra_format.specs.declared.Refusal.{Refusal}
 use Rattle.ultra_format.specs.declared.Answer.{Answer}
 use Rattle.ultra_format.specs.declared.Answer.the-variants.{Done, Refused}
 use Rattle.ultra_reading.specs.Reading.{usedLength, readingOf}
-use Rattle.ultra_reading.specs.Stepping.{cursorAt}
 use Rattle.ultra_reading.specs.declared.Reading.the-variants.{Accepted}
 use Rattle.ultra_reading.specs.declared.cursor.Cursor.{Cursor}
-use Rattle.ultra_reading.specs.declared.cursor.Step.the-variants as stepping
 use Rattle.ultra_acceptance.specs.Acceptance.{HeldBy, versionIn}
+use Rattle.ultra_acceptance.specs.Steps.{StepsThrough}
 use Rattle.ultra_questions.specs.declared.attributes.AttributeAnswer.{AttributeAnswer}
 use Rattle.ultra_questions.specs.AttributeQuestion.{unanswered, attributeAnswer}
 use Rattle.words.specs.Words.{numbersAt}
@@ -41,7 +40,7 @@ use Rattle.ultra_building.specs.Building.{begun, added}
 use Rattle.demand_3.specs.Demand3.{Held, partAt}
 use Rattle.demand_2.specs.Calls.{Members, membersBody, Call, Reply, run}
 use Rattle.demand_2.specs.Calls.{Call.begin, Call.add, Call.addMembers, Call.step}
-use Rattle.demand_2.specs.Calls.{Reply.answer, Reply.stepped}
+use Rattle.demand_2.specs.Calls.{Reply.answer}
 use Rattle.demand_2.specs.CallsFromC.{CallFromC, runFromC, asked, replyCrossed, AnyCall, inRattle, runAny, after, replies}
 use Rattle.demand_2.specs.CallsFromC.{AnyCall.fromRattle}
 use Rattle.demand_2.specs.Arguments.{AdditionTyped, MembersTyped, AllTyped}
@@ -64,12 +63,6 @@ pub record Follows (b : List ℕ) (gs : List Addition) : Type 0 where
 abbrev pub Undetermined : ℕ → Context → Call → Type 0
 Undetermined room c k =
     (j : Cursor) × (k ≡ step j) × (2 ≤ count c) × (j .index < count c) × (used c ≤ j .offset) × (j .offset + 8 ≤ room) × (j .offset % 8 ≡ 0)
-
--- steps by the list's own cursors go through its attributes, and end behind them
-pub record StepsThrough (b : List ℕ) (c : Context) : Type 0 where
-  pub each : (i : ℕ) → i < count c → run (step (cursorAt i (startIn (c .attributes) i))) b .0
-      ≡ stepped (stepping.Attribute (record { kind = typeAt c i; start = startIn (c .attributes) i; size = sizeAt c i }) (cursorAt (i + 1) (startIn (c .attributes) (i + 1))))
-  pub past : (i o : ℕ) → count c ≤ i → run (step (cursorAt i o)) b .0 ≡ stepped stepping.End
 
 -- ---- reading back
 -- what an answer to the attribute question, with the bytes of its part, gives to an add; nothing for a type from 7 up
@@ -162,6 +155,7 @@ pub record Demand2 : Type 0 where
   pub answers : (b : List ℕ) (ks : List AnyCall) (k : AnyCall) → begun b .0 ≡ Done 8 → AllTyped ks
       → (Undetermined (roomOf b) (contextGiven (listNow b ks)) (inRattle k) → ⊥)
       → runAny k (bufferNow b ks) .0 ≡ anyReply (roomOf b) k (listNow b ks)
+  -- steps by the list's own cursors go through it
   pub steps : (b : List ℕ) (ks : List AnyCall) → begun b .0 ≡ Done 8 → AllTyped ks → 2 ≤ length (listNow b ks)
       → StepsThrough (bufferNow b ks) (contextGiven (listNow b ks))
   -- "called from the loader, which is written in C": a call from C does what the call from Rattle does, and its answer is that call's as

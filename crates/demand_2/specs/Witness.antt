@@ -24,6 +24,7 @@ use Rattle.ultra_reading.specs.Stepping.{cursorAt}
 use Rattle.ultra_building.specs.Building.{begun, added}
 use Rattle.demand_3.specs.Demand3.{Held}
 use Rattle.demand_3.specs.Witness.{everyPlatformRecord, everyKernelRecord, everyModuleRecord, everyFramebufferRecord, everyEntries, everyLine}
+use Rattle.ultra_acceptance.specs.Steps.{StepsThrough}
 use Rattle.demand_2.specs.Calls.{Members.platformMembers, Members.kernelMembers, Members.mapMembers, Members.moduleMembers, Reply.number}
 use Rattle.demand_2.specs.Calls.{Call.begin, Call.add, Call.addMembers, Call.read, Call.step, Call.askAttribute, Call.askStart, Call.askPart, Call.copyMap, Call.copyMapBytes, Call.askLine, Call.locateLine, Call.askModule, Call.list, Call.askListingLength}
 use Rattle.demand_2.specs.CallsFromC.{AnyCall, runAny, after, replies}
@@ -32,7 +33,7 @@ use Rattle.demand_2.specs.CallsFromC.{CallFromC.ultraRead, CallFromC.ult
 use Rattle.demand_2.specs.CallsFromC.{CallFromC.ultraAddPlatform, CallFromC.ultraAddKernel, CallFromC.ultraAddMap, CallFromC.ultraAddModule, CallFromC.ultraAddCommandLine, CallFromC.ultraAddFramebuffer}
 use Rattle.demand_2.specs.Arguments.{AllTyped}
 use Rattle.demand_2.specs.Model.{contextGiven, listAfterAll}
-use Rattle.demand_2.specs.Demand2.{StepsThrough, ReadsBack, adds, AllSucceeded, Appended, bufferNow}
+use Rattle.demand_2.specs.Demand2.{ReadsBack, adds, AllSucceeded, Appended, bufferNow}
 
 -- the records of 01's listing
 abbrev pub listedAdditions : List Addition
