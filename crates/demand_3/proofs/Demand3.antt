@@ -56,7 +56,7 @@ module _ (b d : List ℕ) (c : Context) (g : Held b c) (h : Held d c) where
 pub demand-3 : Demand3
 demand-3 =
     record {
-      accepts = λ b y. let r = reads-exactly b y in (λ e. let s = r .0 e in (s .0, s .1), λ s. r .1 (s .0, s .1, held-reading b (s .0) (s .1)));
+      accepts = reads-exactly;
       oneList = one-context 2;
       oneLength = λ b c v n h e. ap readingValue (sym e ∙ held-reading b c h);
       reads = reads;

@@ -23,7 +23,7 @@ use Rattle.ultra_format.proofs.Attributes.{at, Sized, sized, width-attribute, w
 use Rattle.ultra_format.proofs.Decoded.{count-decoded, at-decoded, type-decoded, used-decoded, says-decoded, decoded-only}
 use Rattle.ultra_reading.specs.Reading.{headFault, faultOf, attributesAnswer, usedLength, versionOf, withVersion, readingOf, readingNumber}
 use Rattle.ultra_reading.specs.declared.Reading.the-variants as reading
-use Rattle.ultra_acceptance.specs.Acceptance.{HeldBy, AcceptsExactly, OneContext, SilentBytes, versionIn, ReadsExactly, SilentReading}
+use Rattle.ultra_acceptance.specs.Acceptance.{HeldBy, AcceptsExactly, OneContext, SilentBytes, versionIn, ReadsExactly, ReadsHeld}
 use Rattle.ultra_acceptance.proofs.Types.{fits, Ordered, ordered, no-fault}
 use Rattle.ultra_acceptance.proofs.Walked.{Passes, Accepted, accepted, accepting, inside, ends}
 
@@ -175,7 +175,7 @@ silent-bytes fewest b d c g s =
 
 -- ---- reading
 -- what reading answers of a buffer that holds a context
-pub held-reading : (b : List ℕ) (c : Context) → HeldBy 2 b c → readingOf b ≡ reading.Accepted (versionIn c) (used c)
+pub held-reading : ReadsHeld
 unfolding readingOf contextOf
 held-reading b c h =
     let q = decoded-only 2 (roomOf b) b c (h .0) (h .1) in
@@ -205,9 +205,4 @@ number-held b y (Refused r) e z = absurd (used-number 2 b r e z)
 
 pub reads-exactly : ReadsExactly
 unfolding readingOf
-reads-exactly b y =
-    (λ e. let h = number-held b y (usedLength 2 b) refl e in (h .0, h .1, held-reading b (h .0) (h .1)), λ r. ap readingNumber (r .2))
-
-pub silent-reading : SilentReading
-silent-reading b d c h s =
-    held-reading d c (silent-bytes 2 b d c h s .0) ∙ sym (held-reading b c h)
+reads-exactly b y = (number-held b y (usedLength 2 b) refl, λ r. ap readingNumber (held-reading b (r .0) (r .1)))

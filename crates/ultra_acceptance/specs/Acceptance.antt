@@ -42,10 +42,10 @@ SilentBytes =
 abbrev pub versionIn : Context → Version
 versionIn c = record { major = c .major; minor = c .minor }
 
--- "reading accepts exactly when some list meets the rules and its bytes open the buffer", and answers its version and used length
+-- "reading accepts exactly when some list meets the rules and its bytes open the buffer"
 abbrev pub ReadsExactly : Type 0
-ReadsExactly = (b : List ℕ) → Bytes b → (readingNumber (readingOf b) ≡ 0) ↔ ((c : Context) × HeldBy 2 b c × (readingOf b ≡ Accepted (versionIn c) (used c)))
+ReadsExactly = (b : List ℕ) → Bytes b → (readingNumber (readingOf b) ≡ 0) ↔ ((c : Context) × HeldBy 2 b c)
 
--- and what reading answers of it is the same
-abbrev pub SilentReading : Type 0
-SilentReading = (b d : List ℕ) (c : Context) → HeldBy 2 b c → DiffersInSilence c b d → readingOf d ≡ readingOf b
+-- and answers that list's version and used length
+abbrev pub ReadsHeld : Type 0
+ReadsHeld = (b : List ℕ) (c : Context) → HeldBy 2 b c → readingOf b ≡ Accepted (versionIn c) (used c)
