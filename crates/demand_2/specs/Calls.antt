@@ -45,27 +45,37 @@ membersBody (kernelMembers physical virtual size partitionType disk partition di
 membersBody (mapMembers entries) = mapOf entries
 membersBody (moduleMembers kind name address size) = moduleOf kind name address size
 
--- each call, with what it is given beside the buffer
+-- each call, with what it is given beside the buffer; the comment before a case names the calls that it stands for
 pub data Call : Type 0 where
-  -- ultra_building: `begin`, the six adds, and the four of `members`
+  -- `ultra_building::begin`
   begin : Call
+  -- `ultra_building::add_platform`, `add_kernel`, `add_map`, `add_module`, `add_command_line`, `add_framebuffer`
   add : Addition → Call
+  -- `ultra_building::members::add_platform`, `add_kernel`, `add_map`, `add_module`
   addMembers : Members → Call
-  -- ultra_reading: `read`, `Cursor::step`
+  -- `ultra_reading::read`
   read : Call
+  -- `Cursor::step`
   step : Cursor → Call
-  -- ultra_questions: `attribute`, `attribute_start`, `attribute_part`, `copy_map`, `copy_map_bytes`, `command_line`,
-  -- `command_line_part`, `module_holding`
+  -- `ultra_questions::attribute`
   askAttribute : ℕ → Call
+  -- `ultra_questions::attribute_start`
   askStart : ℕ → Call
+  -- `ultra_questions::attribute_part`
   askPart : ℕ → Call
+  -- `ultra_questions::copy_map`
   copyMap : List ℕ → Call
+  -- `ultra_questions::copy_map_bytes`
   copyMapBytes : List ℕ → Call
+  -- `ultra_questions::command_line`
   askLine : Call
+  -- `ultra_questions::command_line_part`
   locateLine : Call
+  -- `ultra_questions::module_holding`
   askModule : ℕ → Call
-  -- ultra_listing: `list`, `listing_length`
+  -- `ultra_listing::list`
   list : List ℕ → Call
+  -- `ultra_listing::listing_length`
   askListingLength : Call
 
 -- what a call gives back. A part of the buffer is told by where it is and by its bytes; `copied` has the lent output too.
