@@ -34,7 +34,7 @@ four-on t n0 n1 n2 n3 = omega arith
 seven-on : (t : ℕ) → 4 ≤ t → (t ≡ 4 → ⊥) → (t ≡ 5 → ⊥) → (t ≡ 6 → ⊥) → 7 ≤ t
 seven-on t h n4 n5 n6 = omega arith
 
-suits-type : (b : List ℕ) (o s t : ℕ) → (t ≡ 0 → ⊥) → TypeSuits (decoded b o s t)
+pub suits-type : (b : List ℕ) (o s t : ℕ) → (t ≡ 0 → ⊥) → TypeSuits (decoded b o s t)
 suits-type b o s t z = by-type TypeSuits b o s t (λ e. tt) (λ e. tt) (λ e. tt) (λ e. tt) (λ e. tt) (λ e. tt) (λ n. seven-on t (four-on t z (n .0) (n .1) (n .2)) (n .3) (n .4) (n .5))
 
 -- ---- from reading to the rules

@@ -1,3 +1,4 @@
 pub mod Acceptance
 pub mod Refusing
 pub mod Steps
+pub mod Unread
