@@ -7,4 +7,6 @@ pub mod Refusing
 pub mod Steps
 pub mod SameFields
 pub mod SilentCells
+pub mod ContextCells
+pub mod Alike
 pub mod Unread

@@ -1,7 +1,7 @@
 -- The bytes that document 01 calls silent, by its digits, are silent in the layout of what is decoded.
 -- Assumes nothing.
-use Prim.Native.Nat.{ℕ, zero, suc, _+_, _-_, _/_, _≤_, _<_}
-use mathlib.Core.Path.{_≡_, refl, sym, ap, _∙_}
+use Prim.Native.Nat.{ℕ, zero, suc, _+_, _-_, _<_}
+use mathlib.Core.Path.{_≡_, refl, _∙_}
 use mathlib.Core.List.{List, [], _∷_, _++_}
 use native.Mathlib.Omega.{arith}
 use native.Mathlib.Nat.{not-suc-le-zero, le-of-suc-le-suc, add-zero}
@@ -22,14 +22,14 @@ use Rattle.ultra_acceptance.specs.Unread.{SilentByte.platformName, Silen
 
 -- ---- fields in a row
 -- byte i is byte m of what stands after the first n fields
-past : (n : ℕ) (fs : List Field) (i m : ℕ) → width (take n fs) + m ≡ i → SilentAt (cells (drop n fs)) m → SilentAt (cells fs) i
+pub past : (n : ℕ) (fs : List Field) (i m : ℕ) → width (take n fs) + m ≡ i → getD (cells fs) i silent ≡ getD (cells (drop n fs)) m silent
 unfolding cells width
-past zero fs i m e h = let q : i ≡ m = omega arith in rw q h
-past (suc n) [] i m e h = refl
-past (suc n) (f ∷ fs) i m e h =
+past zero fs i m e = let q : i ≡ m = omega arith in rw q
+past (suc n) [] i m e = refl
+past (suc n) (f ∷ fs) i m e =
     let k = i - fieldWidth f in
     let q : i ≡ length (fieldCells f) + k = omega (arith, length-field f) in
-    rw q (getD-append-add (fieldCells f) (cells fs) k silent ∙ past n fs k m (omega arith) h)
+    rw q (getD-append-add (fieldCells f) (cells fs) k silent ∙ past n fs k m (omega arith))
 
 in-silence : (k m : ℕ) (cs : List Cell) → m < k → SilentAt (silence k ++ cs) m
 in-silence zero m cs h = absurd (not-suc-le-zero h)
@@ -67,20 +67,20 @@ module _ (b : List ℕ) (o s : ℕ) where
   pub silent-body : (t i : ℕ) → 8 + i < s → SilentByte b o t (8 + i) → SilentAt (cells (bodyFields s (decoded b o s t))) i
   unfolding decoded width
   silent-body t i l (platformReserved e g h) =
-      rw (e, le-leb 64 s (omega arith), le-leb 65 s (omega arith)) (past 7 _ i (i - 57) (omega arith) (in-padding 7 (i - 57) _ (omega arith)))
+      rw (e, le-leb 64 s (omega arith), le-leb 65 s (omega arith)) (past 7 _ i (i - 57) (omega arith) ∙ (in-padding 7 (i - 57) _ (omega arith)))
   silent-body t i l (platformTail e g) =
       rw (e, le-leb 64 s (omega arith), le-leb 65 s (omega arith), le-leb 80 s (omega arith), le-leb 88 s (omega arith))
-      (past 10 _ i (i - 80) (omega arith) (in-padding (s - 88) (i - 80) [] (omega arith)))
-  silent-body t i l (kernelTail e g) = rw e (past 9 _ i (i - 328) (omega arith) (in-padding (s - 336) (i - 328) [] (omega arith)))
+      (past 10 _ i (i - 80) (omega arith) ∙ (in-padding (s - 88) (i - 80) [] (omega arith)))
+  silent-body t i l (kernelTail e g) = rw e (past 9 _ i (i - 328) (omega arith) ∙ (in-padding (s - 336) (i - 328) [] (omega arith)))
   silent-body t i l (moduleReserved e g h) = rw e (in-padding 4 i _ (omega arith))
-  silent-body t i l (moduleTail e g) = rw e (past 5 _ i (i - 88) (omega arith) (in-padding (s - 96) (i - 88) [] (omega arith)))
-  silent-body t i l (framebufferTail e g) = rw e (past 6 _ i (i - 24) (omega arith) (in-padding (s - 32) (i - 24) [] (omega arith)))
+  silent-body t i l (moduleTail e g) = rw e (past 5 _ i (i - 88) (omega arith) ∙ (in-padding (s - 96) (i - 88) [] (omega arith)))
+  silent-body t i l (framebufferTail e g) = rw e (past 6 _ i (i - 24) (omega arith) ∙ (in-padding (s - 32) (i - 24) [] (omega arith)))
   silent-body t i l (platformName e z h) =
-      rw e (past 3 _ i (i - 8) (omega (arith, z .1, z .2)) (in-text b o 16 32 (i - 8) (8 + i) _ z (omega (arith, z .1, z .2)) (omega arith)))
+      rw e (past 3 _ i (i - 8) (omega (arith, z .1, z .2)) ∙ (in-text b o 16 32 (i - 8) (8 + i) _ z (omega (arith, z .1, z .2)) (omega arith)))
   silent-body t i l (kernelPath e z h) =
-      rw e (past 8 _ i (i - 72) (omega (arith, z .1, z .2)) (in-text b o 80 256 (i - 72) (8 + i) _ z (omega (arith, z .1, z .2)) (omega arith)))
+      rw e (past 8 _ i (i - 72) (omega (arith, z .1, z .2)) ∙ (in-text b o 80 256 (i - 72) (8 + i) _ z (omega (arith, z .1, z .2)) (omega arith)))
   silent-body t i l (moduleName e z h) =
-      rw e (past 2 _ i (i - 8) (omega (arith, z .1, z .2)) (in-text b o 16 64 (i - 8) (8 + i) _ z (omega (arith, z .1, z .2)) (omega arith)))
+      rw e (past 2 _ i (i - 8) (omega (arith, z .1, z .2)) ∙ (in-text b o 16 64 (i - 8) (8 + i) _ z (omega (arith, z .1, z .2)) (omega arith)))
   silent-body t i l (lineText e z) = rw e (in-text b o 8 (s - 8) i (8 + i) [] z refl (omega arith))
   silent-body t i l (untabled g h) =
       by-type (λ (x : Body). SilentAt (cells (bodyFields s x)) i) b o s t

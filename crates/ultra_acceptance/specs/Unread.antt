@@ -6,22 +6,21 @@ use Prim.Native.Nat.{ℕ, _+_, _≤_, _<_}
 use mathlib.Core.Path.{_≡_}
 use mathlib.Core.List.{List}
 use lib.ListN.{getD, take}
-use Rattle.ultra_format.specs.Layouts.{roomOf}
-use Rattle.ultra_format.specs.Decoding.{start, storedType, storedSize, storedCount}
+use Rattle.ultra_format.specs.Layouts.{Silent, roomOf}
+use Rattle.ultra_format.specs.Decoding.{start, storedType, storedSize, storedCount, contextOf}
 use Rattle.ultra_reading.specs.Reading.{Clear, usedLength, readingOf}
 use Rattle.ultra_reading.specs.Stepping.{stepOf}
 use Rattle.ultra_reading.specs.declared.cursor.Cursor.{Cursor}
 
--- ---- past byte 65,536
--- A1: "nothing past byte 65,536 of a longer buffer is looked at": a buffer is read, with every lower limit of the count, and stepped
--- through, as its first 65,536 bytes are
-pub record UnreadPastRoom (b : List ℕ) : Type 0 where
-  pub reading : readingOf b ≡ readingOf (take 65536 b)
-  pub used : (fewest : ℕ) → usedLength fewest b ≡ usedLength fewest (take 65536 b)
-  pub step : (k : Cursor) → stepOf b k ≡ stepOf (take 65536 b) k
+-- d is read as b is: accepted alike, or refused with the same number at the same offset, with every lower limit of the count
+pub record ReadAlike (b d : List ℕ) : Type 0 where
+  pub reading : readingOf d ≡ readingOf b
+  pub used : (fewest : ℕ) → usedLength fewest d ≡ usedLength fewest b
 
+-- ---- past byte 65,536
+-- A1: "nothing past byte 65,536 of a longer buffer is looked at": a buffer is read and stepped through as its first 65,536 bytes are
 abbrev pub PastRoomUnread : Type 0
-PastRoomUnread = (b : List ℕ) → UnreadPastRoom b
+PastRoomUnread = (b : List ℕ) → ReadAlike b (take 65536 b) × ((k : Cursor) → stepOf (take 65536 b) k ≡ stepOf b k)
 
 -- ---- silent bytes
 -- Which bytes these are is said here in 01's digits and for any buffer; the layout (crate ultra_format) says it of a list.
@@ -64,10 +63,14 @@ pub record SameButSilent (b d : List ℕ) : Type 0 where
       → (k : ℕ) → 8 ≤ k → k < storedSize b j → (SilentByte b (start b j) (storedType b j) k → ⊥) → SameByte b d (start b j + k)
 
 -- B19: "No condition of [1] to [16] looks at the head's reserved u16, a reserved member, a tail behind a text's zero, a longer attribute's
--- tail or the body of a type from 7 up.": such a buffer is refused with the same number at the same offset, or accepted alike
+-- tail or the body of a type from 7 up."
 abbrev pub SilentUnread : Type 0
-SilentUnread = (fewest : ℕ) (b d : List ℕ) → SameButSilent b d → usedLength fewest d ≡ usedLength fewest b
+SilentUnread = (b d : List ℕ) → SameButSilent b d → ReadAlike b d
 
--- and by the reading call, which answers the version too
-abbrev pub SilentReadingUnread : Type 0
-SilentReadingUnread = (b d : List ℕ) → SameButSilent b d → readingOf d ≡ readingOf b
+-- the same by 01's term for a list: d is as b but for bytes that are silent in the list that is decoded from b, whether or not it meets
+-- the rules
+abbrev pub SameButSilentInList : List ℕ → List ℕ → Type 0
+SameButSilentInList b d = (roomOf d ≡ roomOf b) × ((i : ℕ) → (Silent (contextOf b) i → ⊥) → SameByte b d i)
+
+abbrev pub SilentInListUnread : Type 0
+SilentInListUnread = (b d : List ℕ) → SameButSilentInList b d → ReadAlike b d
