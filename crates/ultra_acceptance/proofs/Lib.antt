@@ -10,3 +10,4 @@ pub mod SilentCells
 pub mod ContextCells
 pub mod Alike
 pub mod Unread
+pub mod UnreadExample

@@ -2,3 +2,4 @@ pub mod Acceptance
 pub mod Refusing
 pub mod Steps
 pub mod Unread
+pub mod UnreadExample
