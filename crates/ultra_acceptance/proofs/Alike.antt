@@ -53,7 +53,7 @@ shown true n = refl
 shown false n = refl
 
 module _ (b d : List ℕ) (o s t : ℕ) where
-  -- whether the size suits lies in type and size alone
+  -- type and size alone say whether the size suits
   form-alike : sizeSuits s (decoded d o s t) ≡ sizeSuits s (decoded b o s t)
   unfolding decoded sizeSuits
   form-alike =
@@ -61,7 +61,7 @@ module _ (b d : List ℕ) (o s t : ℕ) where
       (λ e. rw e (simp shown)) (λ e. rw e) (λ e. rw e (simp length-entries)) (λ e. rw e) (λ e. rw e) (λ e. rw e)
       (λ n. rw (ne-eqb t 1 (n .0), ne-eqb t 2 (n .1), ne-eqb t 3 (n .2), ne-eqb t 4 (n .3), ne-eqb t 5 (n .4), ne-eqb t 6 (n .5)))
 
-  -- the body's bytes matter where it does
+  -- the body's bytes matter only where the size suits
   body-alike : (t ≡ 0 → ⊥) → (sizeSuits s (decoded b o s t) ≡ true → Same b d (o + 8) (cells (bodyFields s (decoded b o s t))))
       → bodyFault s (decoded d o s t) ≡ bodyFault s (decoded b o s t)
   unfolding bodyFault
@@ -108,13 +108,14 @@ module _ (b d : List ℕ) (o : ℕ) (head : (k : ℕ) → k < 8 → SameByte b d
       (first-alike (placeFault before (u32At b o)) _ _ _ refl (λ p. body-alike b d o (u32At b (o + 4)) (u32At b o) (k .typed) (body k))))
 
 -- ---- all of a buffer
-pub record SameLoud (b d : List ℕ) : Type 0 where
+-- d is as b at every byte that is read
+pub record SameRead (b d : List ℕ) : Type 0 where
   pub room : roomOf d ≡ roomOf b
   pub head : (i : ℕ) → i < 8 → (i ≡ 2 → ⊥) → (i ≡ 3 → ⊥) → SameByte b d i
   pub header : (j : ℕ) → j < storedCount b → Clear b (roomOf b) j → (k : ℕ) → k < 8 → SameByte b d (start b j + k)
   pub body : (j : ℕ) → j < storedCount b → Clear b (roomOf b) j → SameBody b d (start b j)
 
-module _ (b d : List ℕ) (s : SameLoud b d) where
+module _ (b d : List ℕ) (s : SameRead b d) where
   walk-alike : (i n : ℕ) → i + n ≡ storedCount b → Clear b (roomOf b) i → start d i ≡ start b i → typesBefore d i ≡ typesBefore b i
       → attributesAnswer d (roomOf b) i n ≡ attributesAnswer b (roomOf b) i n
   unfolding attributesAnswer start typesBefore

@@ -1,5 +1,5 @@
 -- Where the bytes of an attribute lie in the layout of the context that is decoded from a buffer: from its start in the buffer on, if the
--- attributes before it have no fault. And which of them are not silent in any case.
+-- attributes before it have no fault. And that the head but for its reserved u16, and each attribute's type and size, are not silent.
 -- Assumes nothing.
 use Prim.Native.Nat.{ℕ, zero, suc, _+_, _<_}
 use mathlib.Core.Path.{_≡_, refl, sym, ap, _∙_}
@@ -23,24 +23,24 @@ use Rattle.ultra_acceptance.proofs.Walked.{passes}
 use Rattle.ultra_acceptance.proofs.SilentCells.{past}
 
 -- ---- bytes that are not silent
-loud-bytes : (l : List ℕ) (cs : List Cell) (i : ℕ) → i < length l → SilentAt (bytes l ++ cs) i → ⊥
-loud-bytes [] cs i h e = not-suc-le-zero h
-loud-bytes (x ∷ l) cs zero h e = not-silent x (sym e)
-loud-bytes (x ∷ l) cs (suc i) h e = loud-bytes l cs i (le-of-suc-le-suc h) e
+bytes-not-silent : (l : List ℕ) (cs : List Cell) (i : ℕ) → i < length l → SilentAt (bytes l ++ cs) i → ⊥
+bytes-not-silent [] cs i h e = not-suc-le-zero h
+bytes-not-silent (x ∷ l) cs zero h e = not-silent x (sym e)
+bytes-not-silent (x ∷ l) cs (suc i) h e = bytes-not-silent l cs i (le-of-suc-le-suc h) e
 
 -- an attribute's type and size
-pub loud-header : (a : Attribute) (k : ℕ) → k < 8 → SilentAt (cells (attributeFields a)) k → ⊥
+pub header-not-silent : (a : Attribute) (k : ℕ) → k < 8 → SilentAt (cells (attributeFields a)) k → ⊥
 unfolding cells
-loud-header a k h e = loud-bytes (littleEndian 4 (typeOf (a .body)) ++ littleEndian 4 (a .size)) (cells (bodyFields (a .size) (a .body))) k h e
+header-not-silent a k h e = bytes-not-silent (littleEndian 4 (typeOf (a .body)) ++ littleEndian 4 (a .size)) (cells (bodyFields (a .size) (a .body))) k h e
 
 -- the head, but for its reserved bytes
-pub loud-head : (c : Context) (i : ℕ) → i < 8 → (i ≡ 2 → ⊥) → (i ≡ 3 → ⊥) → Silent c i → ⊥
+pub head-not-silent : (c : Context) (i : ℕ) → i < 8 → (i ≡ 2 → ⊥) → (i ≡ 3 → ⊥) → Silent c i → ⊥
 unfolding cells
-loud-head c zero h m n e = not-silent _ (sym e)
-loud-head c (suc zero) h m n e = not-silent _ (sym e)
-loud-head c (suc (suc zero)) h m n e = m refl
-loud-head c (suc (suc (suc zero))) h m n e = n refl
-loud-head c (suc (suc (suc (suc i)))) h m n e = loud-bytes (littleEndian 4 (count c)) (cells (attributesFields (c .attributes))) i (omega arith) e
+head-not-silent c zero h m n e = not-silent _ (sym e)
+head-not-silent c (suc zero) h m n e = not-silent _ (sym e)
+head-not-silent c (suc (suc zero)) h m n e = m refl
+head-not-silent c (suc (suc (suc zero))) h m n e = n refl
+head-not-silent c (suc (suc (suc (suc i)))) h m n e = bytes-not-silent (littleEndian 4 (count c)) (cells (attributesFields (c .attributes))) i (omega arith) e
 
 -- ---- attributes in a row
 in-row : (l : List Attribute) (j k : ℕ) → ((i : ℕ) → i < j → width (attributeFields (at l i)) ≡ at l i .size) → j < length l → k < width (attributeFields (at l j))

@@ -1,5 +1,5 @@
--- Two buffers that are equal at the bytes of some fields that are not silent hold the same values there. That their elements are bytes is
--- not asked, so that the cells' own values say nothing; only where a cell is silent does.
+-- Two buffers that are equal at the bytes of some fields that are not silent hold the same values there. Only which cells are silent is
+-- used, not what the others say, so that the buffers' elements need not be bytes.
 -- Assumes nothing.
 use Prim.Native.Nat.{ℕ, zero, suc, _+_, _/_, _<_}
 use mathlib.Core.Path.{_≡_, refl, sym, _∙_}

@@ -18,7 +18,7 @@ use Rattle.ultra_format.specs.Decoding.{decoded}
 use Rattle.ultra_format.proofs.Bodies.{by-type}
 use Rattle.ultra_acceptance.specs.Unread.{ZeroBefore, SilentByte}
 use Rattle.ultra_acceptance.specs.Unread.{SilentByte.platformReserved, SilentByte.platformTail, SilentByte.kernelTail, SilentByte.moduleReserved, SilentByte.moduleTail, SilentByte.framebufferTail}
-use Rattle.ultra_acceptance.specs.Unread.{SilentByte.platformName, SilentByte.kernelPath, SilentByte.moduleName, SilentByte.lineText, SilentByte.untabled}
+use Rattle.ultra_acceptance.specs.Unread.{SilentByte.platformName, SilentByte.kernelPath, SilentByte.moduleName, SilentByte.commandLineText, SilentByte.otherBody}
 
 -- ---- fields in a row
 -- byte i is byte m of what stands after the first n fields
@@ -81,8 +81,8 @@ module _ (b : List ℕ) (o s : ℕ) where
       rw e (past 8 _ i (i - 72) (omega (arith, z .1, z .2)) ∙ (in-text b o 80 256 (i - 72) (8 + i) _ z (omega (arith, z .1, z .2)) (omega arith)))
   silent-body t i l (moduleName e z h) =
       rw e (past 2 _ i (i - 8) (omega (arith, z .1, z .2)) ∙ (in-text b o 16 64 (i - 8) (8 + i) _ z (omega (arith, z .1, z .2)) (omega arith)))
-  silent-body t i l (lineText e z) = rw e (in-text b o 8 (s - 8) i (8 + i) [] z refl (omega arith))
-  silent-body t i l (untabled g h) =
+  silent-body t i l (commandLineText e z) = rw e (in-text b o 8 (s - 8) i (8 + i) [] z refl (omega arith))
+  silent-body t i l (otherBody g h) =
       by-type (λ (x : Body). SilentAt (cells (bodyFields s x)) i) b o s t
       (λ e. absurd (omega arith)) (λ e. absurd (omega arith)) (λ e. absurd (omega arith)) (λ e. absurd (omega arith)) (λ e. absurd (omega arith)) (λ e. absurd (omega arith))
       (λ n. in-padding (s - 8) i [] (omega arith))

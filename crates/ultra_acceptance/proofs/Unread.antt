@@ -1,6 +1,6 @@
 -- Proofs of the statements in specs/Unread.antt.
 -- Assumes nothing.
-use Prim.Native.Nat.{ℕ, _+_, _%_, _<_}
+use Prim.Native.Nat.{ℕ, _+_, _%_, _≤_, _<_}
 use mathlib.Core.Path.{_≡_, refl, sym, ap, _∙_}
 use mathlib.Core.Bool.{_&&_}
 use mathlib.Core.List.{List}
@@ -19,11 +19,11 @@ use Rattle.ultra_reading.specs.Stepping.{cursorFault, stepOf}
 use Rattle.ultra_reading.specs.declared.cursor.Cursor.{Cursor}
 use Rattle.ultra_reading.proofs.HeadLaws.{head-holds}
 use Rattle.ultra_reading.proofs.BoundsLaws.{bounds-hold}
-use Rattle.ultra_acceptance.specs.Unread.{PastRoomUnread, SameByte, SameButSilent, SilentUnread, SameButSilentInList, SilentInListUnread}
+use Rattle.ultra_acceptance.specs.Unread.{ReadAlike, PastRoomUnread, SameByte, SameButSilent, SilentUnread, SameButSilentInList, SilentInListUnread}
 use Rattle.ultra_acceptance.proofs.SameFields.{same-along}
 use Rattle.ultra_acceptance.proofs.SilentCells.{past, silent-body}
-use Rattle.ultra_acceptance.proofs.ContextCells.{loud-header, loud-head, context-cells}
-use Rattle.ultra_acceptance.proofs.Alike.{step-alike, kind-alike, size-alike, bounds-alike, SameBody, SameLoud, count-alike, head-alike, read-alike}
+use Rattle.ultra_acceptance.proofs.ContextCells.{header-not-silent, head-not-silent, context-cells}
+use Rattle.ultra_acceptance.proofs.Alike.{step-alike, kind-alike, size-alike, bounds-alike, SameBody, SameRead, count-alike, head-alike, read-alike}
 
 -- ---- silent bytes, by 01's digits
 module _ (b d : List ℕ) (s : SameButSilent b d) where
@@ -38,17 +38,17 @@ module _ (b d : List ℕ) (s : SameButSilent b d) where
       let p : o + 8 + i ≡ o + (8 + i) = omega arith in
       rw p (s .body j l c (8 + i) (omega arith) (omega arith) (λ y. u (silent-body b o (storedSize b j) (storedType b j) i (omega arith) y)) (omega arith)))
 
-  same-loud : SameLoud b d
-  same-loud = record { room = s .room; head = s .head; header = s .header; body = same-body }
+  same-read : SameRead b d
+  same-read = record { room = s .room; head = s .head; header = s .header; body = same-body }
 
 pub silent-unread : SilentUnread
-silent-unread b d s = read-alike b d (same-loud b d s)
+silent-unread b d s = read-alike b d (same-read b d s)
 
 -- ---- silent bytes, by the list
 module _ (b d : List ℕ) (s : SameButSilentInList b d) where
   same-header-in : (j : ℕ) → j < storedCount b → Clear b (roomOf b) j → (k : ℕ) → k < 8 → SameByte b d (start b j + k)
   unfolding width
-  same-header-in j l c k g = s .1 (start b j + k) (λ y. loud-header (storedAttribute b j) k g (sym (context-cells b j l c k (omega arith)) ∙ y))
+  same-header-in j l c k g = s .1 (start b j + k) (λ y. header-not-silent (storedAttribute b j) k g (sym (context-cells b j l c k (omega arith)) ∙ y))
 
   same-body-in : (j : ℕ) → j < storedCount b → Clear b (roomOf b) j → SameBody b d (start b j)
   unfolding width
@@ -61,16 +61,16 @@ module _ (b d : List ℕ) (s : SameButSilentInList b d) where
       let p : o + 8 + i ≡ o + (8 + i) = omega arith in
       rw p (s .1 (o + (8 + i)) (λ y. u (sym (context-cells b j l c (8 + i) (omega arith) ∙ past 2 (attributeFields a) (8 + i) i refl) ∙ y)) (omega arith)))
 
-  same-in-list : SameLoud b d
-  same-in-list = record { room = s .0; head = λ i l m n. s .1 i (loud-head (contextOf b) i l m n); header = same-header-in; body = same-body-in }
+  same-in-list : SameRead b d
+  same-in-list = record { room = s .0; head = λ i l m n. s .1 i (head-not-silent (contextOf b) i l m n); header = same-header-in; body = same-body-in }
 
 pub silent-in-list-unread : SilentInListUnread
 silent-in-list-unread b d s = read-alike b d (same-in-list b d s)
 
 -- ---- past byte 65,536
 module _ (b d : List ℕ) (r : roomOf d ≡ roomOf b) (h : (i : ℕ) → SameByte b d i) where
-  all-alike : SameLoud b d
-  all-alike = same-loud b d (record { room = r; head = λ i l m n. h i; header = λ j l c k g. h (start b j + k); body = λ j l c k g m n. h (start b j + k) })
+  all-alike : SameRead b d
+  all-alike = same-read b d (record { room = r; head = λ i l m n. h i; header = λ j l c k g. h (start b j + k); body = λ j l c k g m n. h (start b j + k) })
 
   cursor-alike : (o : ℕ) → cursorFault d o ≡ cursorFault b o
   unfolding cursorFault
@@ -86,8 +86,12 @@ module _ (b d : List ℕ) (r : roomOf d ≡ roomOf b) (h : (i : ℕ) → SameByt
       let g = bounds-hold b (roomOf b) o (passed (leb 8 o && eqb (o % 8) 0) 4 _ y .1) .header in
       rw (kind-alike b d o (λ k l. h (o + k)) g, size-alike b d o (λ k l. h (o + k)) g)))))
 
+-- a buffer cut at n, from the most that a room has on
+cut : (n : ℕ) (b : List ℕ) → 65536 ≤ n → ReadAlike b (take n b) × ((k : Cursor) → stepOf (take n b) k ≡ stepOf b k)
+cut n b l =
+    let r : roomOf (take n b) ≡ roomOf b = rw (length-take n b) (omega arith) in
+    let h : (i : ℕ) → SameByte b (take n b) i = λ i m. getD-take n b i 0 (omega arith) in
+    (read-alike b (take n b) (all-alike b (take n b) r h), steps-alike b (take n b) r h)
+
 pub past-room-unread : PastRoomUnread
-past-room-unread b =
-    let r : roomOf (take 65536 b) ≡ roomOf b = rw (length-take 65536 b) (omega arith) in
-    let h : (i : ℕ) → SameByte b (take 65536 b) i = λ i l. getD-take 65536 b i 0 (omega arith) in
-    (read-alike b (take 65536 b) (all-alike b (take 65536 b) r h), steps-alike b (take 65536 b) r h)
+past-room-unread b = cut 65536 b (omega arith)

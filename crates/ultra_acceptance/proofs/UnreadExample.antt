@@ -1,20 +1,19 @@
 -- Proof of the statement in specs/UnreadExample.antt.
 -- Assumes nothing.
 use Prim.Native.Nat.{ℕ, zero, suc, _+_, _≤_, _<_}
-use mathlib.Core.Path.{_≡_, refl, sym, ap, _∙_}
+use mathlib.Core.Path.{_≡_, refl}
 use mathlib.Core.Bool.{Bool, true, false, not, _&&_, _||_}
-use mathlib.Core.List.{List, [], _∷_, _++_}
+use mathlib.Core.List.{List, [], _∷_}
 use native.Mathlib.Omega.{arith}
-use mathlib.Core.Logic.{_⊎_, _⊎_.inl, _⊎_.inr, ⊎-elim}
+use mathlib.Core.Logic.{⊎-elim}
 use native.Mathlib.Nat.{not-suc-le-zero, le-of-suc-le-suc, eq-or-lt-of-le, zero-add}
-use lib.ListN.{length, getD}
+use lib.ListN.{getD}
 use lib.Dec.{leb, eqb}
 use borrow.Author.Tests.{leb-true, eqb-true}
 use Rattle.words.specs.Words.{numberAt}
 use Rattle.byte_layout.specs.Fields.{Cell, cells, SilentAt}
 use Rattle.byte_layout.specs.Fields.{Cell.byte, Cell.silent}
 use Rattle.byte_layout.specs.Stored.{bytesAt, textAt}
-use Rattle.byte_layout.proofs.Cells.{not-silent}
 use Rattle.ultra_format.specs.Answers.{refusal}
 use Rattle.ultra_format.specs.Layouts.{layout, attributesFields, entriesFields, roomOf}
 use Rattle.ultra_format.specs.Members.{every, sizeSuits, values, kernelValues, moduleValues, bppSuits, framebufferValues, texts, asciiText, pathText, ranges, ordered, entriesOrdered, bodyFault}
@@ -25,8 +24,8 @@ use Rattle.ultra_reading.specs.Reading.{headFault, boundsFault, attributeFault,
 use Rattle.ultra_reading.specs.declared.Reading.the-variants.{Refused}
 use Rattle.ultra_acceptance.specs.Unread.{SilentByte, SameButSilent, SameButSilentInList}
 use Rattle.ultra_acceptance.specs.Unread.{SilentByte.platformReserved, SilentByte.platformTail, SilentByte.kernelTail, SilentByte.moduleReserved, SilentByte.moduleTail, SilentByte.framebufferTail}
-use Rattle.ultra_acceptance.specs.Unread.{SilentByte.platformName, SilentByte.kernelPath, SilentByte.moduleName, SilentByte.lineText, SilentByte.untabled}
-use Rattle.ultra_acceptance.specs.UnreadExample.{refusedCells, filledWith, refusedBytes, RefusedExample, RefusedExamples}
+use Rattle.ultra_acceptance.specs.Unread.{SilentByte.platformName, SilentByte.kernelPath, SilentByte.moduleName, SilentByte.commandLineText, SilentByte.otherBody}
+use Rattle.ultra_acceptance.specs.UnreadExample.{refusedCells, filledWith, refusedBytes, RefusedExamples}
 
 is-refused : (v : ℕ) → readingOf (refusedBytes v) ≡ Refused (refusal 13 592)
 unfolding refusedBytes readingOf usedLength headFault attributesAnswer attributeFault boundsFault placeFault placed occurs bodyFault sizeSuits values kernelValues moduleValues bppSuits framebufferValues texts asciiText pathText ranges ordered entriesOrdered every decoded entriesAt start typesBefore numberAt bytesAt textAt
@@ -59,27 +58,30 @@ below-at p (suc n) k e h =
     let t = both-hold (p n) (below p n) e in
     ⊎-elim (λ q. rw q (t .0)) (λ l. below-at p n k (t .1) l) (eq-or-lt-of-le (le-of-suc-le-suc h))
 
-either : (x y : Bool) → (x || y) ≡ true → (x ≡ true) ⊎ (y ≡ true)
-either true y e = inl refl
-either false y e = inr e
+cases : {P : Type 0} (x y : Bool) → (x ≡ true → P) → (y ≡ true → P) → (x || y) ≡ true → P
+cases true y f g e = f refl
+cases false y f g e = g e
 
-between : (a c k : ℕ) → (leb a k && leb k c) ≡ true → (a ≤ k) × (k ≤ c)
+abbrev within : ℕ → ℕ → ℕ → Bool
+within a c k = leb a k && leb k c
+
+between : (a c k : ℕ) → within a c k ≡ true → (a ≤ k) × (k ≤ c)
 between a c k e = let t = both-hold (leb a k) (leb k c) e in (leb-true a k (t .0), leb-true k c (t .1))
 
--- of the n bytes from `o` on, those that are silent pass the test
-onlyQuiet : (ℕ → Bool) → ℕ → ℕ → Bool
-onlyQuiet quiet o n = below (λ k. not (isSilent (getD refusedCells (o + k) silent)) || quiet k) n
+-- of the n bytes from `o` on, only those that pass the test are silent
+silentOnlyIn : (ℕ → Bool) → ℕ → ℕ → Bool
+silentOnlyIn inRanges o n = below (λ k. not (isSilent (getD refusedCells (o + k) silent)) || inRanges k) n
 
-quiet-at : (quiet : ℕ → Bool) (o n k : ℕ) → onlyQuiet quiet o n ≡ true → k < n → SilentAt refusedCells (o + k) → quiet k ≡ true
-unfolding onlyQuiet isSilent
-quiet-at quiet o n k e h s = rw s at (below-at (λ k. not (isSilent (getD refusedCells (o + k) silent)) || quiet k) n k e h)
+silent-in : (inRanges : ℕ → Bool) (o n k : ℕ) → silentOnlyIn inRanges o n ≡ true → k < n → SilentAt refusedCells (o + k) → inRanges k ≡ true
+unfolding silentOnlyIn isSilent
+silent-in inRanges o n k e h s = rw s at (below-at (λ k. not (isSilent (getD refusedCells (o + k) silent)) || inRanges k) n k e h)
 
--- the silent bytes of an attribute of type t and of s bytes at `o`
+-- an attribute of type t and of s bytes at `o`: its silent bytes lie in some ranges, and what lies there 01 calls silent
 record Attribute (b : List ℕ) (o t s : ℕ) : Type 0 where
-  quiet : ℕ → Bool
-  only : onlyQuiet (λ k. leb 8 k && quiet k) o s ≡ true
+  inRanges : ℕ → Bool
+  only : silentOnlyIn (λ k. leb 8 k && inRanges k) o s ≡ true
   least : 8 ≤ s
-  quietSilent : (k : ℕ) → 8 ≤ k → quiet k ≡ true → SilentByte b o t k
+  rangesSilent : (k : ℕ) → 8 ≤ k → inRanges k ≡ true → SilentByte b o t k
 
 module _ (v : ℕ) where
   abbrev b : List ℕ
@@ -89,53 +91,66 @@ module _ (v : ℕ) where
   At j = Attribute b (start b j) (storedType b j) (storedSize b j)
 
   at-platform : At 0
-  unfolding refusedBytes start numberAt onlyQuiet below isSilent
+  unfolding refusedBytes start numberAt silentOnlyIn below isSilent
   at-platform =
       record {
-        quiet = λ k. (leb 65 k && leb k 71) || (leb 18 k && leb k 47) || leb 88 k;
+        inRanges = λ k. within 65 71 k || within 18 47 k || leb 88 k;
         only = refl;
         least = omega arith;
-        quietSilent = λ k l q. ⊎-elim (λ e. ⊎-elim (λ f. let h = between 65 71 k f in platformReserved refl (h .0) (h .1)) (λ f. let h = between 18 47 k f in platformName refl (17, omega arith, h .0, refl) (h .1)) (either (leb 65 k && leb k 71) _ e)) (λ e. platformTail refl (leb-true 88 k e)) (either ((leb 65 k && leb k 71) || (leb 18 k && leb k 47)) _ q);
+        rangesSilent = λ k l.
+            cases (within 65 71 k || within 18 47 k) (leb 88 k)
+            (cases (within 65 71 k) (within 18 47 k)
+            (λ e. let h = between 65 71 k e in platformReserved refl (h .0) (h .1))
+            (λ e. let h = between 18 47 k e in platformName refl (17, omega arith, h .0, refl) (h .1)))
+            (λ e. platformTail refl (leb-true 88 k e));
       }
 
   at-kernel : At 1
-  unfolding refusedBytes start numberAt onlyQuiet below isSilent
+  unfolding refusedBytes start numberAt silentOnlyIn below isSilent
   at-kernel =
       record {
-        quiet = λ k. (leb 83 k && leb k 335) || leb 336 k;
+        inRanges = λ k. within 83 335 k || leb 336 k;
         only = refl;
         least = omega arith;
-        quietSilent = λ k l q. ⊎-elim (λ f. let h = between 83 335 k f in kernelPath refl (82, omega arith, h .0, refl) (h .1)) (λ e. kernelTail refl (leb-true 336 k e)) (either (leb 83 k && leb k 335) _ q);
+        rangesSilent = λ k l.
+            cases (within 83 335 k) (leb 336 k)
+            (λ e. let h = between 83 335 k e in kernelPath refl (82, omega arith, h .0, refl) (h .1))
+            (λ e. kernelTail refl (leb-true 336 k e));
       }
 
   at-module : At 2
-  unfolding refusedBytes start numberAt onlyQuiet below isSilent
+  unfolding refusedBytes start numberAt silentOnlyIn below isSilent
   at-module =
       record {
-        quiet = λ k. leb k 11 || (leb 18 k && leb k 79) || leb 96 k;
+        inRanges = λ k. leb k 11 || within 18 79 k || leb 96 k;
         only = refl;
         least = omega arith;
-        quietSilent = λ k l q. ⊎-elim (λ e. ⊎-elim (λ f. moduleReserved refl l (leb-true k 11 f)) (λ f. let h = between 18 79 k f in moduleName refl (17, omega arith, h .0, refl) (h .1)) (either (leb k 11) _ e)) (λ e. moduleTail refl (leb-true 96 k e)) (either (leb k 11 || (leb 18 k && leb k 79)) _ q);
+        rangesSilent = λ k l.
+            cases (leb k 11 || within 18 79 k) (leb 96 k)
+            (cases (leb k 11) (within 18 79 k)
+            (λ e. moduleReserved refl l (leb-true k 11 e))
+            (λ e. let h = between 18 79 k e in moduleName refl (17, omega arith, h .0, refl) (h .1)))
+            (λ e. moduleTail refl (leb-true 96 k e));
       }
 
   at-line : At 3
-  unfolding refusedBytes start numberAt onlyQuiet below isSilent
-  at-line = record { quiet = λ k. leb 10 k; only = refl; least = omega arith; quietSilent = λ k l q. lineText refl (9, omega arith, leb-true 10 k q, refl) }
+  unfolding refusedBytes start numberAt silentOnlyIn below isSilent
+  at-line = record { inRanges = λ k. leb 10 k; only = refl; least = omega arith; rangesSilent = λ k l q. commandLineText refl (9, omega arith, leb-true 10 k q, refl) }
 
-  at-seven : At 4
-  unfolding refusedBytes start numberAt onlyQuiet below isSilent
-  at-seven = record { quiet = λ k. true; only = refl; least = omega arith; quietSilent = λ k l q. untabled (omega arith) l }
+  at-other : At 4
+  unfolding refusedBytes start numberAt silentOnlyIn below isSilent
+  at-other = record { inRanges = λ k. true; only = refl; least = omega arith; rangesSilent = λ k l q. otherBody (omega arith) l }
 
   at-framebuffer : At 5
-  unfolding refusedBytes start numberAt onlyQuiet below isSilent
-  at-framebuffer = record { quiet = λ k. leb 32 k; only = refl; least = omega arith; quietSilent = λ k l q. framebufferTail refl (leb-true 32 k q) }
+  unfolding refusedBytes start numberAt silentOnlyIn below isSilent
+  at-framebuffer = record { inRanges = λ k. leb 32 k; only = refl; least = omega arith; rangesSilent = λ k l q. framebufferTail refl (leb-true 32 k q) }
 
   at-each : (j : ℕ) → j < 6 → At j
   at-each zero h = at-platform
   at-each (suc zero) h = at-kernel
   at-each (suc (suc zero)) h = at-module
   at-each (suc (suc (suc zero))) h = at-line
-  at-each (suc (suc (suc (suc zero)))) h = at-seven
+  at-each (suc (suc (suc (suc zero)))) h = at-other
   at-each (suc (suc (suc (suc (suc zero))))) h = at-framebuffer
   at-each (suc (suc (suc (suc (suc (suc j)))))) h = absurd (omega arith)
 
@@ -149,17 +164,17 @@ module _ (v : ℕ) where
     counted = refl
 
     same-head : (i : ℕ) → i < 8 → (i ≡ 2 → ⊥) → (i ≡ 3 → ⊥) → SilentAt refusedCells i → ⊥
-    unfolding onlyQuiet below isSilent
+    unfolding silentOnlyIn below isSilent
     same-head i h m n s =
-        ⊎-elim (λ e. m (eqb-true i 2 e)) (λ e. n (eqb-true i 3 e)) (either (eqb i 2) (eqb i 3) (quiet-at (λ k. eqb k 2 || eqb k 3) 0 8 i refl h (rw zero-add s)))
+        cases (eqb i 2) (eqb i 3) (λ e. m (eqb-true i 2 e)) (λ e. n (eqb-true i 3 e)) (silent-in (λ k. eqb k 2 || eqb k 3) 0 8 i refl h (rw zero-add s))
 
     -- what is silent of attribute j passes its test
     passes : (j : ℕ) (h : j < storedCount b) (k : ℕ) → k < storedSize b j → SilentAt refusedCells (start b j + k) → (8 ≤ k) × SilentByte b (start b j) (storedType b j) k
     passes j h k l s =
         let a = at-each j (omega (arith, counted)) in
-        let t = both-hold (leb 8 k) (a .quiet k) (quiet-at (λ k. leb 8 k && a .quiet k) (start b j) (storedSize b j) k (a .only) l s) in
+        let t = both-hold (leb 8 k) (a .inRanges k) (silent-in (λ k. leb 8 k && a .inRanges k) (start b j) (storedSize b j) k (a .only) l s) in
         let g = leb-true 8 k (t .0) in
-        (g, a .quietSilent k g (t .1))
+        (g, a .rangesSilent k g (t .1))
 
     one-room : roomOf (refusedBytes w) ≡ roomOf b
     unfolding refusedBytes

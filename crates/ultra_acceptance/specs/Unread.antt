@@ -44,9 +44,9 @@ pub data SilentByte (b : List ℕ) (o t k : ℕ) : Type 0 where
   platformName : t ≡ 1 → ZeroBefore b o 16 k → k ≤ 47 → SilentByte b o t k
   kernelPath : t ≡ 2 → ZeroBefore b o 80 k → k ≤ 335 → SilentByte b o t k
   moduleName : t ≡ 4 → ZeroBefore b o 16 k → k ≤ 79 → SilentByte b o t k
-  lineText : t ≡ 5 → ZeroBefore b o 8 k → SilentByte b o t k
+  commandLineText : t ≡ 5 → ZeroBefore b o 8 k → SilentByte b o t k
   -- "bodies of types 7 and up"
-  untabled : 7 ≤ t → 8 ≤ k → SilentByte b o t k
+  otherBody : 7 ≤ t → 8 ≤ k → SilentByte b o t k
 
 -- byte i is the same in d as in b, if it is within the room
 abbrev pub SameByte : List ℕ → List ℕ → ℕ → Type 0

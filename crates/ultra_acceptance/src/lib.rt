@@ -1,2 +1,1 @@
-// No code: statements, in specs/, and proofs that reading accepts exactly the contexts that meet the rules and gives each refusal
-// exactly under its condition, and that a step gives each of its answers exactly under its condition.
+// Statements and their proofs alone: what reading and steps accept and refuse, and what reading does not look at. No code.
