@@ -1,6 +1,7 @@
 -- What was spelled is read back.
 -- Assumes nothing.
 use Prim.Native.Nat.{ℕ, zero, suc, _+_, _-_, _*_, _/_, _%_, _^_, _≤_, _<_}
+use Prim.Native.Char.{code}
 use mathlib.Core.Path.{_≡_, refl, sym, ap, _∙_}
 use mathlib.Core.Bool.{Bool, true, false, _||_}
 use mathlib.Core.List.{List, [], _∷_, _++_, append-assoc}
@@ -10,7 +11,7 @@ use lib.Dec.{leb, ltb, eqb}
 use borrow.Author.Tests.{ltb-true, ltb-false, lt-ltb, le-ltb, leb-false, eqb-false, eq-eqb, ne-eqb}
 use Rattle.key_value_text.specs.Lines.{Value, Value.numbers, Value.text, Value.hex, Value.absent, Line, keyBytes, valueBytes, lineBytes}
 use Rattle.key_value_text.specs.Spelling.{pick, each, digits, decimal, behind, joined, hexDigit, hexPair, isEscaped, spelled}
-use Rattle.key_value_text.specs.ReadingBack.{shifted, numberFrom, numberIn, numbersFrom, numbersIn, hexValue, bytesIn, Place.atByte, Place.atFirst, Place.atSecond, textFrom, textIn, before, cut, All, Short, Byte, Differs, Separated, ReadsBack}
+use Rattle.key_value_text.specs.ReadingBack.{shifted, numberFrom, numberIn, numbersFrom, numbersIn, hexValue, bytesIn, Place.atByte, Place.atFirst, Place.atSecond, textFrom, textIn, before, cut, All, Short, Byte, Differs, Separated, ReadsBack, largest, ReadsBackWidest}
 use Rattle.key_value_text.proofs.Digits.{one-digit, more-digits, escaped-byte, plain-byte}
 
 -- ---- lists of which all elements meet a condition
@@ -167,4 +168,16 @@ reads-back =
       text = text-back;
       key = key-back;
       value = λ v rest s. cut-back 10 (valueBytes v) rest (value-clean v s);
+    }
+
+pub reads-back-widest : ReadsBackWidest
+unfolding All
+reads-back-widest =
+    record {
+      number = reads-back .number largest (omega arith);
+      commas = reads-back .numbers (code ",") largest (0 ∷ largest ∷ []) (omega arith) (omega arith) (omega arith, (omega arith, tt));
+      dots = reads-back .numbers (code ".") 255 (255 ∷ []) (omega arith) (omega arith) (omega arith, tt);
+      hex = reads-back .hex (0 ∷ 255 ∷ []) (omega arith, (omega arith, tt));
+      text = reads-back .text (0 ∷ 37 ∷ 61 ∷ 127 ∷ 255 ∷ []) (omega arith, (omega arith, (omega arith, (omega arith, (omega arith, tt)))));
+      value = reads-back .value (numbers (code ",") (largest ∷ [])) [] (omega arith, λ e. omega arith);
     }

@@ -90,3 +90,16 @@ pub record ReadsBack : Type 0 where
   -- a line's key ends with its first `=`, and its value with the first newline behind that
   pub key : (x : Line) (rest : List ℕ) → All (Differs (code "=")) (x .key) → cut (code "=") (lineBytes x ++ rest) ≡ (x .key, valueBytes (x .value) ++ (code "\n" ∷ rest))
   pub value : (v : Value) (rest : List ℕ) → Separated v → cut (code "\n") (valueBytes v ++ (code "\n" ∷ rest)) ≡ (valueBytes v, rest)
+
+-- its premises leave nothing out that a listing has: the largest number of 64 bits, every byte, and both separators. Proved from the
+-- statement itself.
+abbrev pub largest : ℕ
+largest = 18446744073709551615
+
+pub record ReadsBackWidest : Type 0 where
+  pub number : numberIn (decimal largest) ≡ largest
+  pub commas : numbersIn (code ",") (joined (code ",") (largest ∷ 0 ∷ largest ∷ [])) ≡ largest ∷ 0 ∷ largest ∷ []
+  pub dots : numbersIn (code ".") (joined (code ".") (255 ∷ 255 ∷ [])) ≡ 255 ∷ 255 ∷ []
+  pub hex : bytesIn (each hexPair (0 ∷ 255 ∷ [])) ≡ 0 ∷ 255 ∷ []
+  pub text : textIn (each spelled (0 ∷ 37 ∷ 61 ∷ 127 ∷ 255 ∷ [])) ≡ 0 ∷ 37 ∷ 61 ∷ 127 ∷ 255 ∷ []
+  pub value : cut (code "\n") (valueBytes (numbers (code ",") (largest ∷ [])) ++ (code "\n" ∷ [])) ≡ (valueBytes (numbers (code ",") (largest ∷ [])), [])
