@@ -110,7 +110,7 @@ module _ (d : List ℕ) (gs : List Addition) (f : Follows d gs) where
   asked l = questions-by-context d now (held-two l)
 
   unasked : count now < 2 → PassesOn d tooFew
-  unasked l = refusals-pass-on d MISSING 0 (missing 2 l)
+  unasked l = refusals-pass-on d _ (missing 2 l)
 
   -- ---- parts
   part-given : 2 ≤ count now → (i : ℕ) → lentPart d (attributeAnswer d i .part) ≡ partIn now i

@@ -3,47 +3,56 @@
 use Prim.Native.Nat.{ℕ, _*_, _/_, _≤_, _<_}
 use mathlib.Core.Path.{_≡_, refl, sym, ap, _∙_}
 use mathlib.Core.Bool.{Bool, true, false}
-use mathlib.Core.List.{List}
+use mathlib.Core.List.{List, []}
 use mathlib.Core.Logic.{_↔_, _⊎_, _⊎_.inl, _⊎_.inr}
 use native.Mathlib.Omega.{arith}
 use lib.ListN.{length}
 use lib.Dec.{leb, ltb}
 use borrow.Author.Tests.{leb-false, lt-leb, ltb-false, le-ltb, eqb-true, eqb-false}
-use Rattle.byte_layout.specs.Stored.{over}
+use denote.Ref.{RefT}
+use Rattle.byte_layout.specs.Stored.{bytesAt, over}
 use Rattle.words.specs.Words.{numbersIn}
 use Rattle.words.proofs.Numbers.{length-numbers}
 use Rattle.ultra_format.specs.Refusals.{COUNT, ROOM, ABSENT}
 use Rattle.ultra_format.specs.Answers.{refused, numberOf, valueOf}
-use Rattle.ultra_format.specs.Contexts.{Entry, Body, typeOf, Context, count, bodyAt, typeAt, startIn, used}
+use Rattle.ultra_format.specs.Contexts.{Entry, Body, typeOf, Context, count, attributeAt, bodyAt, typeAt, startIn, used}
 use Rattle.ultra_format.specs.Contexts.{Body.platform, Body.kernel, Body.memoryMap, Body.moduleInfo, Body.commandLine, Body.framebuffer, Body.other}
 use Rattle.ultra_format.specs.Layouts.{roomOf}
 use Rattle.ultra_format.specs.Rules.{TypeSuits, Meets}
-use Rattle.ultra_format.specs.Decoding.{pick}
+use Rattle.ultra_format.specs.Decoding.{pick, contextOf}
+use Rattle.ultra_format.specs.declared.Refusal.{Refusal}
 use Rattle.ultra_format.specs.declared.Answer.{Answer}
-use Rattle.ultra_format.specs.declared.Answer.the-variants.{Done}
+use Rattle.ultra_format.specs.declared.Answer.the-variants.{Done, Refused}
 use Rattle.ultra_acceptance.specs.Acceptance.{HeldBy}
+use Rattle.ultra_questions.specs.declared.part.Part.{Part}
+use Rattle.ultra_questions.specs.declared.attributes.AttributeAnswer.{AttributeAnswer}
+use Rattle.ultra_questions.specs.Parts.{noPart, PartOf}
 use Rattle.ultra_questions.specs.Searching.{firstIn, ofType}
-use Rattle.ultra_questions.specs.AttributeQuestion.{startOrCount, attributeStart, attributeAnswer}
-use Rattle.ultra_questions.specs.MapQuestion.{numbers, entriesOf, entriesCopied, mapIn, mapCopied, mapCopiedBytes}
+use Rattle.ultra_questions.specs.AttributeQuestion.{unanswered, startOrCount, withMembers, attributeStart, attributeAnswer}
+use Rattle.ultra_questions.specs.MapQuestion.{numbers, entriesOf, entriesCopied, mapIn, mapCopied, mapCopiedBytes, mapPlace}
 use Rattle.ultra_questions.specs.CommandLineQuestion.{commandLinePart}
 use Rattle.ultra_questions.specs.ModuleQuestion.{moduleHolding}
-use Rattle.ultra_questions.specs.QuestionRefusals.{NoMap, TooShort, QuestionsRefuseExactly, RefusalsPassOn}
+use Rattle.ultra_questions.specs.QuestionRefusals.{IndexRefused, NoMap, TooShort, MapRefused, QuestionsRefuseExactly, RefusalsPassOn}
 use Rattle.ultra_questions.proofs.FirstByIndex.{FirstAt, Outcome, outcome}
+use Rattle.ultra_questions.proofs.MapBytes.{bytes-refused}
 use Rattle.ultra_questions.proofs.ByContext.{questions-by-context}
 
 -- no success is a refusal
-done-refused : (v n o : ℕ) → Done v ≡ refused n o → ⊥
-done-refused v n o e = let z : _≡_ {A = ℕ} 0 1 = cc in omega arith
+done-refused : (v : ℕ) (r : Refusal) → Done v ≡ Refused r → ⊥
+done-refused v r e = let z : _≡_ {A = ℕ} 0 1 = cc in omega arith
+
+-- a refusal is its number and its offset
+refusal-is : (r : Refusal) (n o : ℕ) → numberOf (Refused r) ≡ n → valueOf (Refused r) ≡ o → refused n o ≡ Refused r
+refusal-is r n o e f = rw (← e, ← f) refl
 
 -- ---- "an index asked for at or past the count"
-module _ (c : Context) (i : ℕ) where
-  counted : (n o : ℕ) (t : Bool) → ltb i (count c) ≡ t → pick t (Done (startIn (c .attributes) i)) (refused COUNT (used c)) ≡ refused n o
-      → (n ≡ COUNT) × (o ≡ used c) × (count c ≤ i)
-  counted n o true e q = absurd (done-refused _ n o q)
-  counted n o false e q = (sym (ap numberOf q), sym (ap valueOf q), ltb-false i (count c) e)
+module _ (c : Context) (i : ℕ) (r : Refusal) where
+  counted : (t : Bool) → ltb i (count c) ≡ t → pick t (Done (startIn (c .attributes) i)) (refused COUNT (used c)) ≡ Refused r → IndexRefused c i r
+  counted true e q = absurd (done-refused _ r q)
+  counted false e q = (sym (ap numberOf q), sym (ap valueOf q), ltb-false i (count c) e)
 
-  past-in : (n o : ℕ) → (startOrCount c i ≡ refused n o) ↔ ((n ≡ COUNT) × (o ≡ used c) × (count c ≤ i))
-  past-in n o = (counted n o (ltb i (count c)) refl, λ h. rw (h .0, h .1, le-ltb i (count c) (h .2)))
+  past-in : (startOrCount c i ≡ Refused r) ↔ IndexRefused c i r
+  past-in = (counted (ltb i (count c)) refl, λ h. rw (le-ltb i (count c) (h .2)) (refusal-is r COUNT (used c) (h .0) (h .1)))
 
 -- ---- entries that are there
 module _ (m : ℕ) (es : List Entry) (out : List ℕ) where
@@ -51,13 +60,14 @@ module _ (m : ℕ) (es : List Entry) (out : List ℕ) where
   abbrev fitting : Bool → Answer × List ℕ
   fitting t = pick t (Done (length es), over (numbers es) out) (refused ROOM m, out)
 
-  shorter : (n o : ℕ) (t : Bool) → leb (3 * length es) (length out) ≡ t → fitting t .0 ≡ refused n o
-      → (n ≡ ROOM) × (o ≡ m) × (length out < 3 * length es) × (fitting t .1 ≡ out)
-  shorter n o true e q = absurd (done-refused _ n o q)
-  shorter n o false e q = (sym (ap numberOf q), sym (ap valueOf q), leb-false (3 * length es) (length out) e, refl)
+  shorter : (r : Refusal) (t : Bool) → leb (3 * length es) (length out) ≡ t → fitting t .0 ≡ Refused r
+      → (numberOf (Refused r) ≡ ROOM) × (valueOf (Refused r) ≡ m) × (length out < 3 * length es) × (fitting t .1 ≡ out)
+  shorter r true e q = absurd (done-refused _ r q)
+  shorter r false e q = (sym (ap numberOf q), sym (ap valueOf q), leb-false (3 * length es) (length out) e, refl)
 
-  copied-short : (n o : ℕ) → entriesCopied m es out .0 ≡ refused n o → (n ≡ ROOM) × (o ≡ m) × (length out < 3 * length es) × (entriesCopied m es out .1 ≡ out)
-  copied-short n o = shorter n o (leb (3 * length es) (length out)) refl
+  copied-short : (r : Refusal) → entriesCopied m es out .0 ≡ Refused r
+      → (numberOf (Refused r) ≡ ROOM) × (valueOf (Refused r) ≡ m) × (length out < 3 * length es) × (entriesCopied m es out .1 ≡ out)
+  copied-short r = shorter r (leb (3 * length es) (length out)) refl
 
   short-copied : length out < 3 * length es → entriesCopied m es out .0 ≡ refused ROOM m
   short-copied h = rw (lt-leb (3 * length es) (length out) h)
@@ -104,15 +114,12 @@ module _ (room : ℕ) (c : Context) (m : Meets 2 room c) (out : List ℕ) where
     short-map s = rw (same-entries (s .0) (s .1) (s .2) (s .3)) at (s .4)
 
   -- why the map question refuses, what it then leaves, and that it does
-  abbrev Why : ℕ → ℕ → Type 0
-  Why n o = (o ≡ used c) × (((n ≡ ABSENT) × NoMap c) ⊎ ((n ≡ ROOM) × TooShort c (length out)))
-
-  why : Outcome (ofType 3) (c .attributes) (firstIn (ofType 3) c) → (n o : ℕ) → mapIn c out .0 ≡ refused n o → Why n o × (mapIn c out .1 ≡ out)
-  why (inl r) n o q =
-      let k : refused ABSENT (used c) ≡ refused n o = rw (r .0) at q in
-      ((sym (ap valueOf k), inl (sym (ap numberOf k), λ i h e. eqb-false (typeAt c i) 3 (r .1 i h) e)), rw (r .0))
-  why (inr f) n o q =
-      let k = copied-short (used c) (map-found f .0) out n o (rw (copied f) at q) in
+  why : Outcome (ofType 3) (c .attributes) (firstIn (ofType 3) c) → (r : Refusal) → mapIn c out .0 ≡ Refused r → MapRefused c (length out) r × (mapIn c out .1 ≡ out)
+  why (inl z) r q =
+      let k : refused ABSENT (used c) ≡ Refused r = rw (z .0) at q in
+      ((sym (ap valueOf k), inl (sym (ap numberOf k), λ i h e. eqb-false (typeAt c i) 3 (z .1 i h) e)), rw (z .0))
+  why (inr f) r q =
+      let k = copied-short (used c) (map-found f .0) out r (rw (copied f) at q) in
       ((k .1, inr (k .0, (f .index, map-found f .0, f .below, map-found f .1, k .2))), rw (copied f) (k .3))
 
   absent : Outcome (ofType 3) (c .attributes) (firstIn (ofType 3) c) → NoMap c → mapIn c out .0 ≡ refused ABSENT (used c)
@@ -123,35 +130,62 @@ module _ (room : ℕ) (c : Context) (m : Meets 2 room c) (out : List ℕ) where
   short (inl r) s = absurd (eqb-false (typeAt c (s .0)) 3 (r .1 (s .0) (s .2)) (ap typeOf (s .3)))
   short (inr f) s = rw (copied f) (short-copied (used c) (map-found f .0) out (short-map f s))
 
-  because : (n o : ℕ) → mapIn c out .0 ≡ refused n o → Why n o × (mapIn c out .1 ≡ out)
+  because : (r : Refusal) → mapIn c out .0 ≡ Refused r → MapRefused c (length out) r × (mapIn c out .1 ≡ out)
   because = why (outcome (ofType 3) 8 (c .attributes))
 
-  refuses : (n o : ℕ) → Why n o → mapIn c out .0 ≡ refused n o
-  refuses n o (e, inl (k, z)) = rw (e, k) (absent (outcome (ofType 3) 8 (c .attributes)) z)
-  refuses n o (e, inr (k, s)) = rw (e, k) (short (outcome (ofType 3) 8 (c .attributes)) s)
+  refuses : (r : Refusal) → MapRefused c (length out) r → mapIn c out .0 ≡ Refused r
+  refuses r (e, inl (k, z)) = absent (outcome (ofType 3) 8 (c .attributes)) z ∙ refusal-is r ABSENT (used c) k e
+  refuses r (e, inr (k, s)) = short (outcome (ofType 3) 8 (c .attributes)) s ∙ refusal-is r ROOM (used c) k e
 
 -- ---- the statements
 module _ (b : List ℕ) (c : Context) (h : HeldBy 2 b c) where
-  map-refuses : (out : List ℕ) (n o : ℕ) → (mapCopied b out .0 ≡ refused n o) ↔ Why (roomOf b) c (h .0) out n o
-  map-refuses out n o =
-      rw (questions-by-context b c h .maps out) (λ e. because (roomOf b) c (h .0) out n o e .0, refuses (roomOf b) c (h .0) out n o)
+  start-refuses : (i : ℕ) (r : Refusal) → (attributeStart b i ≡ Refused r) ↔ IndexRefused c i r
+  start-refuses i r = rw (questions-by-context b c h .starts i) (past-in c i r)
 
-  bytes-refuse : (out : List ℕ) (n o : ℕ)
-      → (mapCopiedBytes b out .0 ≡ refused n o) ↔ ((o ≡ used c) × (((n ≡ ABSENT) × NoMap c) ⊎ ((n ≡ ROOM) × TooShort c (length out / 8))))
+  -- the whole answer is refused where its start is
+  start-passed : (i : ℕ) (r : Refusal) (u : Answer) → withMembers (attributeAt (contextOf b) i) u ≡ unanswered (Refused r) → u ≡ Refused r
+  start-passed i r (Done o) e = ap (λ (a : AttributeAnswer). a .answer) e
+  start-passed i r (Refused s) e = ap (λ (a : AttributeAnswer). a .answer) e
+
+  answer-refuses : (i : ℕ) (r : Refusal) → (attributeAnswer b i ≡ unanswered (Refused r)) ↔ IndexRefused c i r
+  unfolding attributeAnswer
+  answer-refuses i r = (λ e. start-refuses i r .0 (start-passed i r (attributeStart b i) e), λ k. rw (start-refuses i r .1 k) refl)
+
+  map-refuses : (out : List ℕ) (r : Refusal) → (mapCopied b out .0 ≡ Refused r) ↔ MapRefused c (length out) r
+  map-refuses out r =
+      rw (questions-by-context b c h .maps out) (λ e. because (roomOf b) c (h .0) out r e .0, refuses (roomOf b) c (h .0) out r)
+
+  bytes-refuse : (out : List ℕ) (r : Refusal) → (mapCopiedBytes b out .0 ≡ Refused r) ↔ MapRefused c (length out / 8) r
   unfolding mapCopiedBytes
-  bytes-refuse out n o = rw (length-numbers out 0 (length out / 8)) at (map-refuses (numbersIn out) n o)
+  bytes-refuse out r = rw (length-numbers out 0 (length out / 8)) at (map-refuses (numbersIn out) r)
 
 pub questions-refuse : QuestionsRefuseExactly
 questions-refuse b c h =
     let q = questions-by-context b c h in
     record {
-      attribute = λ i. rw (q .starts i) (past-in c i);
+      attribute = start-refuses b c h;
+      attributes = answer-refuses b c h;
       map = map-refuses b c h;
       mapBytes = bytes-refuse b c h;
-      kept = λ out n o. rw (q .maps out) (λ e. because (roomOf b) c (h .0) out n o e .1);
-      modules = λ a n o. rw (q .modules a) (done-refused _ n o);
+      kept = λ out r. rw (q .maps out) (λ e. because (roomOf b) c (h .0) out r e .1);
+      modules = λ a r. rw (q .modules a) (done-refused _ r);
     }
 
+-- an empty part has no bytes
+empty : (lent s : RefT (List ℕ)) (p : Part) → p ≡ noPart → PartOf lent s p → lent .now ≡ []
+unfolding bytesAt
+empty lent s p e h = h .has ∙ ap (λ (q : Part). bytesAt (s .now) (q .start) (q .length)) e
+
 pub refusals-pass-on : RefusalsPassOn
-unfolding attributeStart attributeAnswer mapCopied commandLinePart moduleHolding
-refusals-pass-on b n o e = record { starts = λ i. rw e; attributes = λ i. rw e; maps = λ out. rw e; line = rw e; modules = λ a. rw e }
+unfolding attributeStart attributeAnswer mapCopied mapPlace commandLinePart moduleHolding
+refusals-pass-on b r e =
+    record {
+      starts = λ i. rw e;
+      attributes = λ i. rw e;
+      maps = λ out. rw e;
+      mapsBytes = λ out y. bytes-refused b out y r (rw e);
+      line = rw e;
+      modules = λ a. rw e;
+      noSlice = λ lent s i q h. empty lent s (attributeAnswer (s .now) i .part) (rw (q, e)) h;
+      noLine = λ lent s q h. empty lent s (commandLinePart (s .now)) (rw (q, e)) h;
+    }

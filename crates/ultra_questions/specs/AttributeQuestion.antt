@@ -4,6 +4,7 @@
 use Prim.Native.Nat.{ℕ}
 use mathlib.Core.List.{List}
 use lib.Dec.{ltb}
+use denote.Ref.{RefT}
 use Rattle.ultra_format.specs.Refusals.{COUNT}
 use Rattle.ultra_format.specs.Answers.{refused}
 use Rattle.ultra_format.specs.Contexts.{typeOf, Attribute, Context, count, attributeAt, startIn, used}
@@ -14,7 +15,7 @@ use Rattle.ultra_format.specs.declared.Answer.the-variants.{Done, Refused}
 use Rattle.ultra_reading.specs.Reading.{usedLength}
 use Rattle.ultra_questions.specs.declared.attributes.AttributeAnswer.{AttributeAnswer}
 use Rattle.ultra_questions.specs.Passing.{ifAccepted}
-use Rattle.ultra_questions.specs.Parts.{noPart, bodyPart}
+use Rattle.ultra_questions.specs.Parts.{noPart, PartOf, bodyPart}
 
 -- the answer for an attribute that starts at `o`: its value is the start
 abbrev pub answered : ℕ → Attribute → AttributeAnswer
@@ -46,3 +47,7 @@ attributeStart b i = ifAccepted (λ r. r) (startOrCount (contextOf b) i) (usedLe
 
 unfoldable pub attributeAnswer : List ℕ → ℕ → AttributeAnswer
 attributeAnswer b i = withMembers (attributeAt (contextOf b) i) (attributeStart b i)
+
+-- `lent` is a slice that `attribute_part` hands back of the buffer s: its contract
+abbrev pub PartHandedBack : RefT (List ℕ) → RefT (List ℕ) → ℕ → Type 0
+PartHandedBack lent s i = PartOf lent s (attributeAnswer (s .now) i .part)

@@ -2,12 +2,13 @@
 -- Assumes nothing.
 use Prim.Native.Nat.{ℕ}
 use mathlib.Core.List.{List, []}
+use denote.Ref.{RefT}
 use Rattle.ultra_format.specs.Contexts.{Context}
 use Rattle.ultra_format.specs.Decoding.{contextOf}
 use Rattle.ultra_reading.specs.Reading.{usedLength}
 use Rattle.ultra_questions.specs.declared.part.Part.{Part}
 use Rattle.ultra_questions.specs.Passing.{ifAccepted}
-use Rattle.ultra_questions.specs.Parts.{noPart, bodyPart, partBytes}
+use Rattle.ultra_questions.specs.Parts.{noPart, PartOf, bodyPart, partBytes}
 use Rattle.ultra_questions.specs.Searching.{Found, Found.none, Found.found, firstIn, ofType}
 
 abbrev pub foundPart : Found → Part
@@ -28,3 +29,7 @@ textIn c = foundText (firstIn (ofType 5) c)
 -- of a buffer
 unfoldable pub commandLinePart : List ℕ → Part
 commandLinePart b = ifAccepted (λ r. noPart) (commandLineIn (contextOf b)) (usedLength 2 b)
+
+-- `lent` is a slice that `command_line` hands back of the buffer s: its contract
+abbrev pub LineHandedBack : RefT (List ℕ) → RefT (List ℕ) → Type 0
+LineHandedBack lent s = PartOf lent s (commandLinePart (s .now))
