@@ -1,22 +1,24 @@
 -- Demand 3 holds. The one context that a buffer can hold is the one that is decoded from it, and the calls answer by that one.
 -- Assumes nothing.
 use Prim.Native.Nat.{ℕ, _≤_, _<_}
-use mathlib.Core.Path.{_≡_, refl, sym, ap, _∙_}
+use mathlib.Core.Path.{_≡_, refl, sym, ap, _∙_, subst}
 use mathlib.Core.Bool.{Bool, true, false}
-use mathlib.Core.List.{List}
+use mathlib.Core.List.{List, []}
 use lib.Dec.{ltb}
 use borrow.Author.Tests.{ltb-true, ltb-false, lt-ltb, le-ltb}
+use denote.Ref.{RefT}
 use Rattle.byte_layout.specs.Stored.{bytesAt}
 use Rattle.ultra_format.specs.Refusals.{COUNT}
 use Rattle.ultra_format.specs.Answers.{refused}
-use Rattle.ultra_format.specs.Contexts.{Context, count, attributeAt, startIn, used}
+use Rattle.ultra_format.specs.Contexts.{Context, count, attributeAt, bodyAt, startIn, used}
 use Rattle.ultra_format.specs.Layouts.{roomOf}
 use Rattle.ultra_reading.specs.Reading.{readingValue}
 use Rattle.ultra_acceptance.proofs.Acceptance.{one-context, silent-bytes, reads-exactly, held-reading}
 use Rattle.ultra_questions.specs.declared.attributes.AttributeAnswer.{AttributeAnswer}
-use Rattle.ultra_questions.specs.AttributeQuestion.{answered, unanswered, startOrCount, withMembers, attributeAnswer}
-use Rattle.demand_3.specs.Demand3.{Held, partAt, ReadingIs, SameReading, Demand3}
-use Rattle.ultra_questions.proofs.PartCells.{part-bytes}
+use Rattle.ultra_questions.specs.Parts.{PartOf, bodyPart, partBytes}
+use Rattle.ultra_questions.specs.AttributeQuestion.{answered, unanswered, startOrCount, withMembers, attributeAnswer, PartHandedBack}
+use Rattle.demand_3.specs.Demand3.{Held, ReadingIs, SameReading, Demand3}
+use Rattle.ultra_questions.proofs.PartCells.{part-bytes, slice-bytes, slice-empty}
 use Rattle.ultra_questions.proofs.ByContext.{questions-by-context}
 use Rattle.demand_3.proofs.Faithful.{determined}
 
@@ -31,6 +33,19 @@ module _ (b : List ℕ) (c : Context) (h : Held b c) (i : ℕ) where
   beyond : count c ≤ i → attributeAnswer b i ≡ unanswered (refused COUNT (used c))
   beyond k = rw (le-ltb i (count c) k) at held-answer
 
+  -- the slice that is handed back
+  module _ (lent s : RefT (List ℕ)) (e : s .now ≡ b) (p : PartHandedBack lent s i) where
+    slice : PartOf lent s (attributeAnswer b i .part)
+    slice = subst (λ (l : List ℕ). PartOf lent s (attributeAnswer l i .part)) e p
+
+    slice-below : i < count c → PartOf lent s (bodyPart (startIn (c .attributes) i) (bodyAt c i)) × (lent .now ≡ partBytes (bodyAt c i))
+    slice-below k =
+        let w = subst (λ (a : AttributeAnswer). PartOf lent s (a .part)) (below k) slice in
+        (w, slice-bytes b lent s (bodyPart (startIn (c .attributes) i) (bodyAt c i)) e w ∙ part-bytes b 2 (roomOf b) c (h .0) (h .1) i k)
+
+    slice-beyond : count c ≤ i → lent .now ≡ []
+    slice-beyond k = slice-empty lent s (attributeAnswer b i .part) (ap (λ (a : AttributeAnswer). a .part) (beyond k)) slice
+
 reads : (b : List ℕ) (c : Context) → Held b c → ReadingIs b c
 reads b c h =
     record {
@@ -38,6 +53,8 @@ reads b c h =
       each = below b c h;
       parts = λ i k. ap (λ (a : AttributeAnswer). bytesAt b (a .part .start) (a .part .length)) (below b c h i k) ∙ part-bytes b 2 (roomOf b) c (h .0) (h .1) i k;
       past = beyond b c h;
+      slices = λ lent s i e k p. slice-below b c h i lent s e p k;
+      noSlices = λ lent s i e k p. slice-beyond b c h i lent s e p k;
     }
 
 -- ---- two buffers that hold one context are read alike
@@ -45,13 +62,13 @@ module _ (b d : List ℕ) (c : Context) (g : Held b c) (h : Held d c) where
   answers : (i : ℕ) → attributeAnswer d i ≡ attributeAnswer b i
   answers i = held-answer d c h i ∙ sym (held-answer b c g i)
 
-  part-same : (i : ℕ) (t : Bool) → ltb i (count c) ≡ t → partAt d i ≡ partAt b i
-  unfolding bytesAt
-  part-same i true e = let k = ltb-true i (count c) e in reads d c h .parts i k ∙ sym (reads b c g .parts i k)
-  part-same i false e = let k = ltb-false i (count c) e in ap (λ (a : AttributeAnswer). bytesAt d (a .part .start) (a .part .length)) (beyond d c h i k) ∙ sym (ap (λ (a : AttributeAnswer). bytesAt b (a .part .start) (a .part .length)) (beyond b c g i k))
+  module _ (lent other s t : RefT (List ℕ)) (i : ℕ) (e : s .now ≡ b) (f : t .now ≡ d) (p : PartHandedBack lent s i) (q : PartHandedBack other t i) where
+    slice-same : (u : Bool) → ltb i (count c) ≡ u → other .now ≡ lent .now
+    slice-same true k = let l = ltb-true i (count c) k in slice-below d c h i other t f q l .1 ∙ sym (slice-below b c g i lent s e p l .1)
+    slice-same false k = let l = ltb-false i (count c) k in slice-beyond d c h i other t f q l ∙ sym (slice-beyond b c g i lent s e p l)
 
   same : SameReading b d
-  same = record { whole = held-reading d c h ∙ sym (held-reading b c g); each = answers; parts = λ i. part-same i (ltb i (count c)) refl }
+  same = record { whole = held-reading d c h ∙ sym (held-reading b c g); each = answers; slices = λ lent other s t i e f p q. slice-same lent other s t i e f p q (ltb i (count c)) refl }
 
 pub demand-3 : Demand3
 demand-3 =

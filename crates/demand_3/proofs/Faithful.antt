@@ -5,6 +5,7 @@ use Prim.Native.Nat.{ℕ, _/_, _≤_, _<_}
 use mathlib.Core.Path.{_≡_, refl, sym, ap, _∙_}
 use mathlib.Core.Bool.{Bool, true, false}
 use mathlib.Core.List.{List}
+use denote.Ref.{RefT}
 use native.Mathlib.Omega.{arith}
 use lib.ListN.{length}
 use lib.Seq.{ext-getD}
@@ -28,8 +29,9 @@ use Rattle.ultra_reading.specs.declared.Reading.the-variants.{Accepted}
 use Rattle.ultra_acceptance.specs.Acceptance.{versionIn}
 use Rattle.ultra_questions.specs.declared.attributes.AttributeAnswer.{AttributeAnswer}
 use Rattle.ultra_questions.specs.Parts.{partBytes}
-use Rattle.ultra_questions.specs.AttributeQuestion.{answered, unanswered, attributeAnswer}
-use Rattle.demand_3.specs.Demand3.{ReadingIs, SameReading}
+use Rattle.ultra_questions.specs.AttributeQuestion.{answered, unanswered, attributeAnswer, PartHandedBack}
+use Rattle.ultra_questions.proofs.AttributeLaws.{part-inside}
+use Rattle.demand_3.specs.Demand3.{partAt, ReadingIs, SameReading}
 
 -- ---- one body
 -- the body that an answer says, by its type, its records and the bytes of its part
@@ -74,6 +76,23 @@ no-more b d c e g h s = go (leb (count e) (count c)) refl
         absurd (no-refusal (startIn (e .attributes) (count c)) (used c) (attributeAt e (count c))
         (sym (h .each (count c) (leb-false (count e) (count c) q)) ∙ s (count c) ∙ g .past (count c) (omega arith)))
 
+-- ---- the bytes of a part
+-- a lent buffer, and the slice of it that is the part at index i
+buffer : List ℕ → RefT (List ℕ)
+buffer b = record { ptr = (0, 0); name = 0; now = b }
+
+slice : List ℕ → ℕ → RefT (List ℕ)
+slice b i = record { ptr = (0, attributeAnswer b i .part .start); name = 0; now = partAt b i }
+
+handed-back : (b : List ℕ) (i : ℕ) → PartHandedBack (slice b i) (buffer b) i
+unfolding buffer slice
+handed-back b i = record { block = refl; offset = omega arith; within = part-inside b i; has = refl }
+
+-- slices that are the same have the same bytes
+same-bytes : (b d : List ℕ) → SameReading b d → (i : ℕ) → partAt d i ≡ partAt b i
+unfolding buffer slice
+same-bytes b d s i = s .slices (slice b i) (slice d i) (buffer b) (buffer d) i refl refl (handed-back b i) (handed-back d i)
+
 -- ---- two lists
 module _ (b d : List ℕ) (c e : Context) (g : ReadingIs b c) (h : ReadingIs d e) (s : SameReading b d) where
   same-count : count c ≡ count e
@@ -83,7 +102,7 @@ module _ (b d : List ℕ) (c e : Context) (g : ReadingIs b c) (h : ReadingIs d e
   same-answer i k l = sym (g .each i k) ∙ sym (s .each i) ∙ h .each i l
 
   same-part : (i : ℕ) → i < count c → i < count e → partBytes (bodyAt c i) ≡ partBytes (bodyAt e i)
-  same-part i k l = sym (g .parts i k) ∙ sym (s .parts i) ∙ h .parts i l
+  same-part i k l = sym (g .parts i k) ∙ sym (same-bytes b d s i) ∙ h .parts i l
 
   module _ {fewest room more space : ℕ} (m : Meets fewest room c) (n : Meets more space e) where
     same-body : (i : ℕ) → i < count c → i < count e → bodyAt c i ≡ bodyAt e i

@@ -1,12 +1,13 @@
 -- The context with every type is held by its bytes, and by what a writer of it writes.
 -- Assumes nothing.
-use Prim.Native.Nat.{ℕ, zero, suc, _<_}
+use Prim.Native.Nat.{ℕ, zero, suc, _+_, _<_}
 use mathlib.Core.Path.{_≡_, refl, sym, ap, _∙_}
 use mathlib.Core.List.{List, [], _∷_, _++_}
 use native.Mathlib.Omega.{arith}
 use native.Mathlib.Nat.{not-suc-le-zero, le-of-suc-le-suc}
 use lib.ListN.{length, getD}
 use Rattle.byte_layout.specs.Fields.{Cell, Cell.byte, Cell.silent, cells, filled, SilentAt}
+use Rattle.byte_layout.specs.Stored.{bytesAt}
 use Rattle.byte_layout.proofs.Cells.{not-silent, length-filled}
 use Rattle.byte_layout.proofs.FieldLaws.{length-cells}
 use Rattle.ultra_format.specs.Refusals.{COUNT}
@@ -19,9 +20,11 @@ use Rattle.ultra_format.proofs.Attributes.{sized, width-layout}
 use Rattle.ultra_format.proofs.Witness.{noisy, every-type-bytes, every-type-laid, every-type-meets, every-type-opens, silent-zero}
 use Rattle.ultra_acceptance.specs.Acceptance.{DiffersInSilence}
 use Rattle.ultra_questions.specs.Parts.{bodyPart, partBytes}
-use Rattle.ultra_questions.specs.AttributeQuestion.{answered, unanswered}
-use Rattle.demand_3.specs.Demand3.{Held, ReadingIs}
-use Rattle.demand_3.specs.Witness.{everyAnswers, Witnessed}
+use Rattle.ultra_questions.specs.declared.attributes.AttributeAnswer.{AttributeAnswer}
+use Rattle.ultra_questions.specs.AttributeQuestion.{answered, unanswered, attributeAnswer, PartHandedBack}
+use Rattle.ultra_questions.proofs.AttributeLaws.{part-inside}
+use Rattle.demand_3.specs.Demand3.{Held, partAt, ReadingIs}
+use Rattle.demand_3.specs.Witness.{everyAnswers, everyEntries, everyLine, lentAt, Witnessed}
 use Rattle.demand_3.proofs.Demand3.{demand-3}
 
 -- ---- what a writer writes, and the noise, cell by cell
@@ -73,6 +76,30 @@ seven P a b c d e f g (suc (suc (suc (suc (suc (suc (suc i))))))) h = absurd (om
 is : ReadingIs everyTypeBytes everyType
 is = demand-3 .reads everyTypeBytes everyType holds
 
+-- the answers, written out
+answers : (i : ℕ) → i < 7 → attributeAnswer everyTypeBytes i ≡ getD everyAnswers i (unanswered (refused COUNT 0))
+unfolding total recordsOf bodyPart
+answers i h = is .each i h ∙ seven (λ (i : ℕ). answered (startIn (everyType .attributes) i) (attributeAt everyType i) ≡ getD everyAnswers i (unanswered (refused COUNT 0))) refl refl refl refl refl refl refl i h
+
+-- ---- slices of the buffer at 4096
+place : (i : ℕ) (a : AttributeAnswer) → attributeAnswer everyTypeBytes i ≡ a → 4096 + a .part .start ≡ attributeAnswer everyTypeBytes i .part .start + 4096
+place i a e = omega (arith, ap (λ (a : AttributeAnswer). a .part .start) e)
+
+entries : partAt everyTypeBytes 2 ≡ everyEntries
+unfolding partBytes filled cells entriesFields
+entries = is .parts 2 (omega arith)
+
+line : partAt everyTypeBytes 4 ≡ everyLine
+unfolding partBytes
+line = is .parts 4 (omega arith)
+
+past : partAt everyTypeBytes 7 ≡ []
+unfolding bytesAt
+past = ap (λ (a : AttributeAnswer). bytesAt everyTypeBytes (a .part .start) (a .part .length)) (is .past 7 (omega arith))
+
+handed-back : (i o : ℕ) (l : List ℕ) → o ≡ attributeAnswer everyTypeBytes i .part .start + 4096 → partAt everyTypeBytes i ≡ l → PartHandedBack (lentAt o l) (lentAt 4096 everyTypeBytes) i
+handed-back i o l e f = record { block = refl; offset = e; within = part-inside everyTypeBytes i; has = sym f }
+
 pub witnessed : Witnessed
 unfolding everyCells total recordsOf bodyPart partBytes filled cells entriesFields
 witnessed =
@@ -81,10 +108,15 @@ witnessed =
       holds = holds;
       types = seven (λ (i : ℕ). typeAt everyType i ≡ suc i) refl refl refl refl refl refl refl;
       whole = is .whole;
-      each = λ i h. is .each i h ∙ seven (λ (i : ℕ). answered (startIn (everyType .attributes) i) (attributeAt everyType i) ≡ getD everyAnswers i (unanswered (refused COUNT 0))) refl refl refl refl refl refl refl i h;
+      each = answers;
       past = is .past;
-      entries = is .parts 2 (omega arith);
-      line = is .parts 4 (omega arith);
+      entries = entries;
+      line = line;
+      entriesSlice = handed-back 2 4552 everyEntries (place 2 _ (answers 2 (omega arith))) entries;
+      lineSlice = handed-back 4 4712 everyLine (place 4 _ (answers 4 (omega arith))) line;
+      noSlice = handed-back 7 4096 [] (place 7 _ (is .past 7 (omega arith))) past;
+      anyEntries = λ lent s e p. is .slices lent s 2 e (omega arith) p;
+      anyLine = λ lent s e p. is .slices lent s 4 e (omega arith) p;
       differs = differs;
       noisy = λ i h e. (sym (laid i) ∙ silent-noise everyCells (junk 5) i (omega (arith, wide)) e, silent-zero everyCells i e);
       same = demand-3 .silent everyTypeBytes (written everyType) everyType holds differs .1;

@@ -1,13 +1,14 @@
 -- Demand 3 of the order, whole. "Take the rules of the format as conditions on a list of attributes, with no word on how a reader
 -- walks." The list is `Context`, the rules are `Meets`, its bytes open a buffer by `Opens` (all of crate ultra_format). What the calls
--- answer is `readingOf` (the contract of `ultra_reading::read`), `attributeAnswer` (that of `ultra_questions::attribute`) and the bytes
--- of its part (`ultra_questions::attribute_part`). It is proved in proofs/Demand3.antt: `demand-3`. "Whatever a buffer holds and however
+-- answer is `readingOf` (the contract of `ultra_reading::read`), `attributeAnswer` (that of `ultra_questions::attribute`) and a slice of
+-- which `PartHandedBack` holds (that of `ultra_questions::attribute_part`). It is proved in proofs/Demand3.antt: `demand-3`. "Whatever a buffer holds and however
 -- long it is": a buffer is any list of numbers; that they are bytes (`Bytes`) is asked where it is needed.
 -- Assumes nothing.
 use Prim.Native.Nat.{ℕ, _≤_, _<_}
 use mathlib.Core.Path.{_≡_}
 use mathlib.Core.Logic.{_↔_}
-use mathlib.Core.List.{List}
+use mathlib.Core.List.{List, []}
+use denote.Ref.{RefT}
 use Rattle.byte_layout.specs.Stored.{Bytes, bytesAt}
 use Rattle.ultra_format.specs.Refusals.{COUNT}
 use Rattle.ultra_format.specs.Answers.{refused}
@@ -16,15 +17,15 @@ use Rattle.ultra_reading.specs.Reading.{readingOf, readingNumber}
 use Rattle.ultra_reading.specs.declared.Version.{Version}
 use Rattle.ultra_reading.specs.declared.Reading.the-variants.{Accepted}
 use Rattle.ultra_acceptance.specs.Acceptance.{HeldBy, DiffersInSilence, versionIn}
-use Rattle.ultra_questions.specs.Parts.{partBytes}
-use Rattle.ultra_questions.specs.AttributeQuestion.{answered, unanswered, attributeAnswer}
+use Rattle.ultra_questions.specs.Parts.{PartOf, bodyPart, partBytes}
+use Rattle.ultra_questions.specs.AttributeQuestion.{answered, unanswered, attributeAnswer, PartHandedBack}
 
 -- "some list meets the rules and its bytes open the buffer": 2 is the lower limit of the count, and the room is that of the buffer
 -- (`roomOf`): "with at most its first 65,536 bytes considered"
 abbrev pub Held : List ℕ → Context → Type 0
 Held b c = HeldBy 2 b c
 
--- the bytes of the part that the answer at index i names, which `ultra_questions::attribute_part` hands back
+-- the bytes at the place that the answer at index i names as its part
 abbrev pub partAt : List ℕ → ℕ → List ℕ
 partAt b i = let p = attributeAnswer b i .part in bytesAt b (p .start) (p .length)
 
@@ -36,12 +37,18 @@ pub record ReadingIs (b : List ℕ) (c : Context) : Type 0 where
   pub each : (i : ℕ) → i < count c → attributeAnswer b i ≡ answered (startIn (c .attributes) i) (attributeAt c i)
   pub parts : (i : ℕ) → i < count c → partAt b i ≡ partBytes (bodyAt c i)
   pub past : (i : ℕ) → count c ≤ i → attributeAnswer b i ≡ unanswered (refused COUNT (used c))
+  -- "a map or command line as its part of the buffer's entries or text, up to its zero": whatever slice is handed back of a buffer s
+  -- that has these bytes, it is memory of s, at the attribute's part, and has the bytes of the list's part; from the count on it has none
+  pub slices : (lent s : RefT (List ℕ)) (i : ℕ) → s .now ≡ b → i < count c → PartHandedBack lent s i
+      → PartOf lent s (bodyPart (startIn (c .attributes) i) (bodyAt c i)) × (lent .now ≡ partBytes (bodyAt c i))
+  pub noSlices : (lent s : RefT (List ℕ)) (i : ℕ) → s .now ≡ b → count c ≤ i → PartHandedBack lent s i → lent .now ≡ []
 
 -- "The version and the used length that reading answers, with these answers from index 0 on, are the reading."
 pub record SameReading (b d : List ℕ) : Type 0 where
   pub whole : readingOf d ≡ readingOf b
   pub each : (i : ℕ) → attributeAnswer d i ≡ attributeAnswer b i
-  pub parts : (i : ℕ) → partAt d i ≡ partAt b i
+  -- whatever slices are handed back of a buffer s that has the bytes of b and of a buffer t that has those of d
+  pub slices : (lent other s t : RefT (List ℕ)) (i : ℕ) → s .now ≡ b → t .now ≡ d → PartHandedBack lent s i → PartHandedBack other t i → other .now ≡ lent .now
 
 pub record Demand3 : Type 0 where
   -- "reading accepts exactly when some list meets the rules and its bytes open the buffer"

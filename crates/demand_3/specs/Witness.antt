@@ -7,6 +7,7 @@ use Prim.Native.Nat.{ℕ, suc, _≤_, _<_}
 use mathlib.Core.Path.{_≡_}
 use mathlib.Core.List.{List, [], _∷_, _++_}
 use lib.ListN.{getD}
+use denote.Ref.{RefT}
 use Rattle.byte_layout.specs.Stored.{Bytes}
 use Rattle.ultra_format.specs.Refusals.{COUNT}
 use Rattle.ultra_format.specs.Answers.{refused}
@@ -24,8 +25,8 @@ use Rattle.ultra_reading.specs.declared.Reading.the-variants.{Accepted}
 use Rattle.ultra_acceptance.specs.Acceptance.{DiffersInSilence}
 use Rattle.ultra_questions.specs.declared.part.Part.{Part}
 use Rattle.ultra_questions.specs.declared.attributes.AttributeAnswer.{AttributeAnswer}
-use Rattle.ultra_questions.specs.Parts.{part, noPart}
-use Rattle.ultra_questions.specs.AttributeQuestion.{unanswered, attributeAnswer}
+use Rattle.ultra_questions.specs.Parts.{part, noPart, PartOf}
+use Rattle.ultra_questions.specs.AttributeQuestion.{unanswered, attributeAnswer, PartHandedBack}
 use Rattle.demand_3.specs.Demand3.{Held, partAt, SameReading}
 
 -- ---- the records of the context with every type, each beside blank ones
@@ -115,6 +116,10 @@ everyEntries =
 abbrev pub everyLine : List ℕ
 everyLine = 110 ∷ 111 ∷ 97 ∷ 112 ∷ 105 ∷ 99 ∷ 61 ∷ 49 ∷ []
 
+-- bytes that are lent at an address, in one block of memory
+abbrev pub lentAt : ℕ → List ℕ → RefT (List ℕ)
+lentAt o l = record { ptr = (1, o); name = 0; now = l }
+
 pub record Witnessed : Type 0 where
   pub bytes : Bytes everyTypeBytes
   pub holds : Held everyTypeBytes everyType
@@ -125,6 +130,13 @@ pub record Witnessed : Type 0 where
   pub past : (i : ℕ) → 7 ≤ i → attributeAnswer everyTypeBytes i ≡ unanswered (refused COUNT 688)
   pub entries : partAt everyTypeBytes 2 ≡ everyEntries
   pub line : partAt everyTypeBytes 4 ≡ everyLine
+  -- of the buffer at the address 4096, the slices of the map at 4552 and of the text at 4712 may be handed back, and an empty one past
+  -- the last attribute; any other slice that is handed back lies there too and has the same bytes
+  pub entriesSlice : PartHandedBack (lentAt 4552 everyEntries) (lentAt 4096 everyTypeBytes) 2
+  pub lineSlice : PartHandedBack (lentAt 4712 everyLine) (lentAt 4096 everyTypeBytes) 4
+  pub noSlice : PartHandedBack (lentAt 4096 []) (lentAt 4096 everyTypeBytes) 7
+  pub anyEntries : (lent s : RefT (List ℕ)) → s .now ≡ everyTypeBytes → PartHandedBack lent s 2 → PartOf lent s (part 456 48) × (lent .now ≡ everyEntries)
+  pub anyLine : (lent s : RefT (List ℕ)) → s .now ≡ everyTypeBytes → PartHandedBack lent s 4 → PartOf lent s (part 616 8) × (lent .now ≡ everyLine)
   -- its silent bytes are 165; a writer writes zeros there, and the readings are the same
   pub differs : DiffersInSilence everyType everyTypeBytes (written everyType)
   pub noisy : (i : ℕ) → i < used everyType → Silent everyType i → (getD everyTypeBytes i 0 ≡ 165) × (getD (written everyType) i 0 ≡ 0)

@@ -1,12 +1,13 @@
 -- Each question answers by the context that the buffer holds: reading accepts the buffer, and what is decoded from it is that context.
 -- Assumes nothing.
 use Prim.Native.Nat.{ℕ}
-use mathlib.Core.Path.{_≡_, refl, sym, subst}
+use mathlib.Core.Path.{_≡_, refl, sym, ap, _∙_, subst}
 use mathlib.Core.Bool.{Bool, true, false}
 use mathlib.Core.List.{List}
 use native.Mathlib.Omega.{arith}
 use lib.Dec.{eqb}
 use borrow.Author.Tests.{eqb-true, eqb-false}
+use denote.Ref.{RefT}
 use Rattle.byte_layout.specs.Stored.{bytesAt}
 use Rattle.ultra_format.specs.Contexts.{Attribute, Context, used}
 use Rattle.ultra_format.specs.Layouts.{roomOf}
@@ -16,15 +17,15 @@ use Rattle.ultra_format.proofs.Decoded.{count-decoded, start-decoded, at-decode
 use Rattle.ultra_reading.specs.Reading.{usedLength}
 use Rattle.ultra_acceptance.specs.Acceptance.{HeldBy}
 use Rattle.ultra_acceptance.proofs.Acceptance.{complete}
-use Rattle.ultra_questions.specs.Parts.{bodyPart, partBytes}
+use Rattle.ultra_questions.specs.Parts.{PartOf, bodyPart, partBytes}
 use Rattle.ultra_questions.specs.AttributeQuestion.{attributeStart, attributeAnswer}
 use Rattle.ultra_questions.specs.MapQuestion.{mapCopied}
-use Rattle.ultra_questions.specs.CommandLineQuestion.{commandLineIn, textIn, commandLinePart}
+use Rattle.ultra_questions.specs.CommandLineQuestion.{commandLineIn, textIn, commandLinePart, LineHandedBack}
 use Rattle.ultra_questions.specs.ModuleQuestion.{moduleHolding}
 use Rattle.ultra_questions.specs.Searching.{firstIn, foundStart, ofType}
 use Rattle.ultra_questions.specs.ByContext.{ByContext, QuestionsByContext}
 use Rattle.ultra_questions.proofs.Searches.{found-at, none-at}
-use Rattle.ultra_questions.proofs.PartCells.{part-bytes}
+use Rattle.ultra_questions.proofs.PartCells.{part-bytes, slice-bytes}
 
 module _ (b : List ℕ) (h : HeldBy 2 b (contextOf b)) where
   -- the part of what is found has its bytes
@@ -43,17 +44,31 @@ module _ (b : List ℕ) (h : HeldBy 2 b (contextOf b)) where
   line-text : let p = commandLineIn (contextOf b) in bytesAt b (p .start) (p .length) ≡ textIn (contextOf b)
   line-text = found-text (eqb (foundStart (firstIn (ofType 5) (contextOf b))) 0) refl
 
-by-context : (b : List ℕ) (c : Context) → HeldBy 2 b (contextOf b) → usedLength 2 b ≡ Done (used c) → contextOf b ≡ c → ByContext b c
-unfolding attributeStart attributeAnswer mapCopied commandLinePart moduleHolding
-by-context b c h e q =
-    record {
-      starts = λ i. rw (e, q);
-      attributes = λ i. rw (e, q);
-      maps = λ out. rw (e, q);
-      line = rw (e, q);
-      text = rw (e, q) (rw q at (line-text b h));
-      modules = λ a. rw (e, q);
-    }
+module _ (b : List ℕ) (c : Context) (h : HeldBy 2 b (contextOf b)) (e : usedLength 2 b ≡ Done (used c)) (q : contextOf b ≡ c) where
+  line-is : commandLinePart b ≡ commandLineIn c
+  unfolding commandLinePart
+  line-is = rw (e, q)
+
+  text-is : let p = commandLineIn c in bytesAt b (p .start) (p .length) ≡ textIn c
+  text-is = rw q at (line-text b h)
+
+  slice-is : (lent s : RefT (List ℕ)) → s .now ≡ b → LineHandedBack lent s → PartOf lent s (commandLineIn c) × (lent .now ≡ textIn c)
+  slice-is lent s k g =
+      let w = subst (PartOf lent s) (ap commandLinePart k ∙ line-is) g in
+      (w, slice-bytes b lent s (commandLineIn c) k w ∙ text-is)
+
+  by-context : ByContext b c
+  unfolding attributeStart attributeAnswer mapCopied moduleHolding
+  by-context =
+      record {
+        starts = λ i. rw (e, q);
+        attributes = λ i. rw (e, q);
+        maps = λ out. rw (e, q);
+        line = line-is;
+        text = rw line-is text-is;
+        slice = slice-is;
+        modules = λ a. rw (e, q);
+      }
 
 pub questions-by-context : QuestionsByContext
 questions-by-context b c h =

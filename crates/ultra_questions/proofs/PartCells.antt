@@ -1,7 +1,7 @@
 -- The bytes of a part: a map's entries and a command line's text have no silent cell, so the buffer that they open has their bytes.
 -- Assumes nothing.
 use Prim.Native.Nat.{ℕ, zero, suc, _+_, _-_, _*_, _≤_, _<_}
-use mathlib.Core.Path.{_≡_, refl, ap₂, _∙_}
+use mathlib.Core.Path.{_≡_, refl, ap, ap₂, _∙_}
 use mathlib.Core.Bool.{true}
 use mathlib.Core.List.{List, [], _∷_, _++_, append-nil}
 use native.Mathlib.Omega.{arith}
@@ -9,6 +9,7 @@ use native.Mathlib.Nat.{not-suc-le-zero, le-of-suc-le-suc, add-zero}
 use lib.ListN.{length, take}
 use lib.Dec.{ltb}
 use borrow.Author.Tests.{ltb-true}
+use denote.Ref.{RefT}
 use Rattle.words.specs.Words.{littleEndian}
 use Rattle.byte_layout.specs.Fields.{Cell, cells, width, filled, bytes, textCells}
 use Rattle.byte_layout.specs.Fields.{Cell.byte, Cell.silent}
@@ -23,7 +24,16 @@ use Rattle.ultra_format.specs.Rules.{Meets}
 use Rattle.ultra_format.proofs.Bodies.{width-entries}
 use Rattle.ultra_format.proofs.Chains.{both-hold}
 use Rattle.ultra_format.proofs.Attributes.{at, Sized, sized}
-use Rattle.ultra_questions.specs.Parts.{bodyPart, partBytes}
+use Rattle.ultra_questions.specs.declared.part.Part.{Part}
+use Rattle.ultra_questions.specs.Parts.{noPart, PartOf, bodyPart, partBytes}
+
+-- a slice that is a part has the bytes there
+pub slice-bytes : (b : List ℕ) (lent s : RefT (List ℕ)) (p : Part) → s .now ≡ b → PartOf lent s p → lent .now ≡ bytesAt b (p .start) (p .length)
+slice-bytes b lent s p e h = h .has ∙ ap (λ (l : List ℕ). bytesAt l (p .start) (p .length)) e
+
+pub slice-empty : (lent s : RefT (List ℕ)) (p : Part) → p ≡ noPart → PartOf lent s p → lent .now ≡ []
+unfolding bytesAt
+slice-empty lent s p e h = h .has ∙ ap (λ (q : Part). bytesAt (s .now) (q .start) (q .length)) e
 
 -- no cell is silent
 abbrev Solid : List Cell → Type 0

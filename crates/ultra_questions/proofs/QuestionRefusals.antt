@@ -3,14 +3,13 @@
 use Prim.Native.Nat.{ℕ, _*_, _/_, _≤_, _<_}
 use mathlib.Core.Path.{_≡_, refl, sym, ap, _∙_}
 use mathlib.Core.Bool.{Bool, true, false}
-use mathlib.Core.List.{List, []}
+use mathlib.Core.List.{List}
 use mathlib.Core.Logic.{_↔_, _⊎_, _⊎_.inl, _⊎_.inr}
 use native.Mathlib.Omega.{arith}
 use lib.ListN.{length}
 use lib.Dec.{leb, ltb}
 use borrow.Author.Tests.{leb-false, lt-leb, ltb-false, le-ltb, eqb-true, eqb-false}
-use denote.Ref.{RefT}
-use Rattle.byte_layout.specs.Stored.{bytesAt, over}
+use Rattle.byte_layout.specs.Stored.{over}
 use Rattle.words.specs.Words.{numbersIn}
 use Rattle.words.proofs.Numbers.{length-numbers}
 use Rattle.ultra_format.specs.Refusals.{COUNT, ROOM, ABSENT}
@@ -24,9 +23,7 @@ use Rattle.ultra_format.specs.declared.Refusal.{Refusal}
 use Rattle.ultra_format.specs.declared.Answer.{Answer}
 use Rattle.ultra_format.specs.declared.Answer.the-variants.{Done, Refused}
 use Rattle.ultra_acceptance.specs.Acceptance.{HeldBy}
-use Rattle.ultra_questions.specs.declared.part.Part.{Part}
 use Rattle.ultra_questions.specs.declared.attributes.AttributeAnswer.{AttributeAnswer}
-use Rattle.ultra_questions.specs.Parts.{noPart, PartOf}
 use Rattle.ultra_questions.specs.Searching.{firstIn, ofType}
 use Rattle.ultra_questions.specs.AttributeQuestion.{unanswered, startOrCount, withMembers, attributeStart, attributeAnswer}
 use Rattle.ultra_questions.specs.MapQuestion.{numbers, entriesOf, entriesCopied, mapIn, mapCopied, mapCopiedBytes, mapPlace}
@@ -35,6 +32,7 @@ use Rattle.ultra_questions.specs.ModuleQuestion.{moduleHolding}
 use Rattle.ultra_questions.specs.QuestionRefusals.{IndexRefused, NoMap, TooShort, MapRefused, QuestionsRefuseExactly, RefusalsPassOn}
 use Rattle.ultra_questions.proofs.FirstByIndex.{FirstAt, Outcome, outcome}
 use Rattle.ultra_questions.proofs.MapBytes.{bytes-refused}
+use Rattle.ultra_questions.proofs.PartCells.{slice-empty}
 use Rattle.ultra_questions.proofs.ByContext.{questions-by-context}
 
 -- no success is a refusal
@@ -171,11 +169,6 @@ questions-refuse b c h =
       modules = λ a r. rw (q .modules a) (done-refused _ r);
     }
 
--- an empty part has no bytes
-empty : (lent s : RefT (List ℕ)) (p : Part) → p ≡ noPart → PartOf lent s p → lent .now ≡ []
-unfolding bytesAt
-empty lent s p e h = h .has ∙ ap (λ (q : Part). bytesAt (s .now) (q .start) (q .length)) e
-
 pub refusals-pass-on : RefusalsPassOn
 unfolding attributeStart attributeAnswer mapCopied mapPlace commandLinePart moduleHolding
 refusals-pass-on b r e =
@@ -186,6 +179,6 @@ refusals-pass-on b r e =
       mapsBytes = λ out y. bytes-refused b out y r (rw e);
       line = rw e;
       modules = λ a. rw e;
-      noSlice = λ lent s i q h. empty lent s (attributeAnswer (s .now) i .part) (rw (q, e)) h;
-      noLine = λ lent s q h. empty lent s (commandLinePart (s .now)) (rw (q, e)) h;
+      noSlice = λ lent s i q h. slice-empty lent s (attributeAnswer (s .now) i .part) (rw (q, e)) h;
+      noLine = λ lent s q h. slice-empty lent s (commandLinePart (s .now)) (rw (q, e)) h;
     }
