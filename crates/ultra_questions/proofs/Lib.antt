@@ -10,4 +10,5 @@ pub mod PartCells
 pub mod ByContext
 pub mod FirstByIndex
 pub mod QuestionRefusals
+pub mod ByIndex
 pub mod MapAsBytes

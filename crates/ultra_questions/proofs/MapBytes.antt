@@ -24,7 +24,7 @@ over-again x out m h =
 
 module _ (b out : List ℕ) (y : Bytes out) where
   -- numbers over those of the output are their bytes over it
-  over-numbers : (ns : List ℕ) → length ns ≤ length out / 8 → over (numbersBytes (over ns (numbersIn out))) out ≡ over (numbersBytes ns) out
+  pub over-numbers : (ns : List ℕ) → length ns ≤ length out / 8 → over (numbersBytes (over ns (numbersIn out))) out ≡ over (numbersBytes ns) out
   over-numbers ns h =
       rw (front-bytes out ns y h)
       (over-again (numbersBytes ns) out (8 * (length out / 8 - length ns)) (omega (arith, length-numbers-bytes ns)))

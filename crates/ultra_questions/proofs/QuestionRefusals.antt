@@ -30,7 +30,7 @@ use Rattle.ultra_questions.specs.MapQuestion.{numbers, entriesOf, entrie
 use Rattle.ultra_questions.specs.CommandLineQuestion.{commandLinePart}
 use Rattle.ultra_questions.specs.ModuleQuestion.{moduleHolding}
 use Rattle.ultra_questions.specs.QuestionRefusals.{IndexRefused, NoMap, TooShort, MapRefused, QuestionsRefuseExactly, RefusalsPassOn}
-use Rattle.ultra_questions.proofs.FirstByIndex.{FirstAt, Outcome, outcome}
+use Rattle.ultra_questions.proofs.FirstByIndex.{FirstAt, Outcome, outcome, one-only}
 use Rattle.ultra_questions.proofs.MapBytes.{bytes-refused}
 use Rattle.ultra_questions.proofs.PartCells.{slice-empty}
 use Rattle.ultra_questions.proofs.ByContext.{questions-by-context}
@@ -82,18 +82,8 @@ map-body (framebuffer f) u e = absurd (omega arith)
 map-body (other t) u e = absurd (omega arith)
 
 module _ (room : ℕ) (c : Context) (m : Meets 2 room c) (out : List ℕ) where
-  -- "types 3, 5 and 6 occur at most once"
-  not-before : (i j : ℕ) → j < count c → typeAt c i ≡ 3 → typeAt c j ≡ 3 → i < j → ⊥
-  not-before i j h e f k = m .once i j k h (rw f) (e ∙ sym f)
-
-  one-map : (i j : ℕ) → i < count c → j < count c → typeAt c i ≡ 3 → typeAt c j ≡ 3 → i ≡ j
-  one-map i j h k e f =
-      let p = not-before i j k e f in
-      let q = not-before j i h f e in
-      omega arith
-
   -- where one is found, its entries decide
-  module _ (f : FirstAt (ofType 3) (c .attributes) (firstIn (ofType 3) c)) where
+  module _ (f : FirstAt (ofType 3) 8 (c .attributes) (firstIn (ofType 3) c)) where
     typed : typeAt c (f .index) ≡ 3
     typed = eqb-true (typeAt c (f .index)) 3 (f .meets)
 
@@ -105,14 +95,14 @@ module _ (room : ℕ) (c : Context) (m : Meets 2 room c) (out : List ℕ) where
 
     same-entries : (i : ℕ) (es : List Entry) → i < count c → bodyAt c i ≡ memoryMap es → es ≡ map-found .0
     same-entries i es h e =
-        let q = one-map i (f .index) h (f .below) (ap typeOf e) typed in
+        let q = one-only room c m 3 refl i (f .index) h (f .below) (ap typeOf e) typed in
         ap entriesOf (sym e ∙ ap (bodyAt c) q ∙ map-found .1)
 
     short-map : TooShort c (length out) → length out < 3 * length (map-found .0)
     short-map s = rw (same-entries (s .0) (s .1) (s .2) (s .3)) at (s .4)
 
   -- why the map question refuses, what it then leaves, and that it does
-  why : Outcome (ofType 3) (c .attributes) (firstIn (ofType 3) c) → (r : Refusal) → mapIn c out .0 ≡ Refused r → MapRefused c (length out) r × (mapIn c out .1 ≡ out)
+  why : Outcome (ofType 3) 8 (c .attributes) (firstIn (ofType 3) c) → (r : Refusal) → mapIn c out .0 ≡ Refused r → MapRefused c (length out) r × (mapIn c out .1 ≡ out)
   why (inl z) r q =
       let k : refused ABSENT (used c) ≡ Refused r = rw (z .0) at q in
       ((sym (ap valueOf k), inl (sym (ap numberOf k), λ i h e. eqb-false (typeAt c i) 3 (z .1 i h) e)), rw (z .0))
@@ -120,11 +110,11 @@ module _ (room : ℕ) (c : Context) (m : Meets 2 room c) (out : List ℕ) where
       let k = copied-short (used c) (map-found f .0) out r (rw (copied f) at q) in
       ((k .1, inr (k .0, (f .index, map-found f .0, f .below, map-found f .1, k .2))), rw (copied f) (k .3))
 
-  absent : Outcome (ofType 3) (c .attributes) (firstIn (ofType 3) c) → NoMap c → mapIn c out .0 ≡ refused ABSENT (used c)
+  absent : Outcome (ofType 3) 8 (c .attributes) (firstIn (ofType 3) c) → NoMap c → mapIn c out .0 ≡ refused ABSENT (used c)
   absent (inl r) z = rw (r .0)
   absent (inr f) z = absurd (z (f .index) (f .below) (typed f))
 
-  short : Outcome (ofType 3) (c .attributes) (firstIn (ofType 3) c) → TooShort c (length out) → mapIn c out .0 ≡ refused ROOM (used c)
+  short : Outcome (ofType 3) 8 (c .attributes) (firstIn (ofType 3) c) → TooShort c (length out) → mapIn c out .0 ≡ refused ROOM (used c)
   short (inl r) s = absurd (eqb-false (typeAt c (s .0)) 3 (r .1 (s .0) (s .2)) (ap typeOf (s .3)))
   short (inr f) s = rw (copied f) (short-copied (used c) (map-found f .0) out (short-map f s))
 

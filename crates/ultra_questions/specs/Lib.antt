@@ -6,5 +6,6 @@ pub mod MapQuestion
 pub mod CommandLineQuestion
 pub mod ModuleQuestion
 pub mod ByContext
+pub mod ByIndex
 pub mod QuestionRefusals
 pub mod MapAsBytes
