@@ -1,4 +1,5 @@
 pub mod Chains
+pub mod MapOrder
 pub mod Bodies
 pub mod Sizes
 pub mod Attributes

@@ -4,6 +4,7 @@ pub mod Contexts
 pub mod Layouts
 pub mod Members
 pub mod Rules
+pub mod MapOrder
 pub mod Plain
 pub mod Places
 pub mod Decoding
