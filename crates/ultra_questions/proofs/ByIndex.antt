@@ -2,8 +2,8 @@
 -- test is the one with the least index.
 -- Assumes nothing.
 use Prim.Native.Nat.{ℕ, _+_, _*_, _/_, _≤_, _<_}
-use mathlib.Core.Path.{_≡_, refl, sym, ap, ap₂, _∙_}
-use mathlib.Core.Bool.{Bool, true, false, _&&_}
+use mathlib.Core.Path.{_≡_, refl, sym, ap, _∙_}
+use mathlib.Core.Bool.{Bool, true, false}
 use mathlib.Core.List.{List, [], _∷_, _++_}
 use mathlib.Core.Logic.{_↔_, _⊎_, _⊎_.inl, _⊎_.inr}
 use native.Mathlib.Omega.{arith}
@@ -13,22 +13,20 @@ use borrow.Author.Tests.{leb-true, le-leb, ltb-true, lt-ltb}
 use Rattle.words.specs.Words.{littleEndian, numbersIn, numbersBytes}
 use Rattle.words.proofs.Numbers.{length-numbers}
 use Rattle.byte_layout.specs.Fields.{cells, filled}
-use Rattle.byte_layout.specs.Stored.{Bytes, over}
+use Rattle.byte_layout.specs.Stored.{over}
 use Rattle.ultra_format.specs.Contexts.{Entry, Module, Body, typeOf, Context, count, bodyAt, typeAt, startIn}
 use Rattle.ultra_format.specs.Contexts.{Body.platform, Body.kernel, Body.memoryMap, Body.moduleInfo, Body.commandLine, Body.framebuffer, Body.other}
 use Rattle.ultra_format.specs.Layouts.{entriesFields, roomOf}
 use Rattle.ultra_format.specs.Rules.{Meets}
-use Rattle.ultra_format.specs.declared.Answer.{Answer}
 use Rattle.ultra_format.specs.declared.Answer.the-variants.{Done}
 use Rattle.ultra_format.proofs.Chains.{both-hold}
-use Rattle.ultra_acceptance.specs.Acceptance.{HeldBy}
 use Rattle.ultra_questions.specs.Parts.{part, noPart, bodyPart, partBytes}
-use Rattle.ultra_questions.specs.Searching.{Found, Found.none, Found.found, firstIn, foundStart, ofType}
-use Rattle.ultra_questions.specs.MapQuestion.{numbers, mapIn, mapCopied, mapCopiedBytes}
-use Rattle.ultra_questions.specs.CommandLineQuestion.{commandLineIn, textIn, commandLinePart}
-use Rattle.ultra_questions.specs.ModuleQuestion.{covers, holding, moduleIn, moduleHolding}
-use Rattle.ultra_questions.specs.ByIndex.{Holds, HoldsAt, NoneHolds, FirstHolds, ByIndex, QuestionsByIndex}
-use Rattle.ultra_questions.proofs.FirstByIndex.{FirstAt, Outcome, outcome, found-type, found-none}
+use Rattle.ultra_questions.specs.Searching.{firstIn, foundStart}
+use Rattle.ultra_questions.specs.MapQuestion.{numbers, mapIn, mapCopiedBytes}
+use Rattle.ultra_questions.specs.CommandLineQuestion.{commandLineIn, textIn}
+use Rattle.ultra_questions.specs.ModuleQuestion.{covers, holding, moduleIn}
+use Rattle.ultra_questions.specs.ByIndex.{Holds, HoldsAt, NoneHolds, FirstHolds, QuestionsByIndex}
+use Rattle.ultra_questions.proofs.FirstByIndex.{Outcome, outcome, found-type, found-none}
 use Rattle.ultra_questions.proofs.MapBytes.{over-numbers}
 use Rattle.ultra_questions.proofs.ByContext.{questions-by-context}
 

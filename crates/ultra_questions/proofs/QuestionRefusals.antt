@@ -1,10 +1,10 @@
 -- Proofs of the statements in specs/QuestionRefusals.antt: the questions answer by the context, whose one attribute of type 3 is its map.
 -- Assumes nothing.
-use Prim.Native.Nat.{ℕ, _*_, _/_, _≤_, _<_}
+use Prim.Native.Nat.{ℕ, _*_, _/_, _<_}
 use mathlib.Core.Path.{_≡_, refl, sym, ap, _∙_}
 use mathlib.Core.Bool.{Bool, true, false}
 use mathlib.Core.List.{List}
-use mathlib.Core.Logic.{_↔_, _⊎_, _⊎_.inl, _⊎_.inr}
+use mathlib.Core.Logic.{_↔_, _⊎_.inl, _⊎_.inr}
 use native.Mathlib.Omega.{arith}
 use lib.ListN.{length}
 use lib.Dec.{leb, ltb}
