@@ -76,8 +76,7 @@ no-more b d c e g h s = go (leb (count e) (count c)) refl
         absurd (no-refusal (startIn (e .attributes) (count c)) (used c) (attributeAt e (count c))
         (sym (h .each (count c) (leb-false (count e) (count c) q)) ∙ s (count c) ∙ g .past (count c) (omega arith)))
 
--- ---- the bytes of a part
--- a lent buffer, and the slice of it that is the part at index i
+-- ---- a lent buffer, and the slice of it that is the part at index i
 buffer : List ℕ → RefT (List ℕ)
 buffer b = record { ptr = (0, 0); name = 0; now = b }
 
@@ -88,11 +87,6 @@ handed-back : (b : List ℕ) (i : ℕ) → PartHandedBack (slice b i) (buffer b)
 unfolding buffer slice
 handed-back b i = record { block = refl; offset = omega arith; within = part-inside b i; has = refl }
 
--- slices that are the same have the same bytes
-same-bytes : (b d : List ℕ) → SameReading b d → (i : ℕ) → partAt d i ≡ partAt b i
-unfolding buffer slice
-same-bytes b d s i = s .slices (slice b i) (slice d i) (buffer b) (buffer d) i refl refl (handed-back b i) (handed-back d i)
-
 -- ---- two lists
 module _ (b d : List ℕ) (c e : Context) (g : ReadingIs b c) (h : ReadingIs d e) (s : SameReading b d) where
   same-count : count c ≡ count e
@@ -102,7 +96,11 @@ module _ (b d : List ℕ) (c e : Context) (g : ReadingIs b c) (h : ReadingIs d e
   same-answer i k l = sym (g .each i k) ∙ sym (s .each i) ∙ h .each i l
 
   same-part : (i : ℕ) → i < count c → i < count e → partBytes (bodyAt c i) ≡ partBytes (bodyAt e i)
-  same-part i k l = sym (g .parts i k) ∙ sym (same-bytes b d s i) ∙ h .parts i l
+  unfolding buffer slice
+  same-part i k l =
+      sym (g .slices (slice b i) (buffer b) i refl k (handed-back b i) .1)
+      ∙ sym (s .slices (slice b i) (slice d i) (buffer b) (buffer d) i refl refl (handed-back b i) (handed-back d i))
+      ∙ h .slices (slice d i) (buffer d) i refl l (handed-back d i) .1
 
   module _ {fewest room more space : ℕ} (m : Meets fewest room c) (n : Meets more space e) where
     same-body : (i : ℕ) → i < count c → i < count e → bodyAt c i ≡ bodyAt e i

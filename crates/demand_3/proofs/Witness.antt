@@ -1,4 +1,5 @@
--- The context with every type is held by its bytes, and by what a writer of it writes.
+-- The context with every type is held by its bytes, and by what a writer of it writes. What is said of the second buffer comes from
+-- demand 3, in either direction.
 -- Assumes nothing.
 use Prim.Native.Nat.{ℕ, zero, suc, _+_, _<_}
 use mathlib.Core.Path.{_≡_, refl, sym, ap, _∙_}
@@ -23,7 +24,7 @@ use Rattle.ultra_questions.specs.Parts.{bodyPart, partBytes}
 use Rattle.ultra_questions.specs.declared.attributes.AttributeAnswer.{AttributeAnswer}
 use Rattle.ultra_questions.specs.AttributeQuestion.{answered, unanswered, attributeAnswer, PartHandedBack}
 use Rattle.ultra_questions.proofs.AttributeLaws.{part-inside}
-use Rattle.demand_3.specs.Demand3.{Held, partAt, ReadingIs}
+use Rattle.demand_3.specs.Demand3.{Held, partAt, ReadingIs, SameReading}
 use Rattle.demand_3.specs.Witness.{everyAnswers, everyEntries, everyLine, lentAt, Witnessed}
 use Rattle.demand_3.proofs.Demand3.{demand-3}
 
@@ -63,6 +64,15 @@ differs : DiffersInSilence everyType everyTypeBytes (written everyType)
 unfolding everyCells
 differs = (omega (arith, length-filled everyCells, wide), λ i h n. filled-same everyCells (junk 5) i (omega (arith, wide)) n ∙ laid i)
 
+differs-back : DiffersInSilence everyType (written everyType) everyTypeBytes
+differs-back = (omega (arith, every-type-meets .within), λ i h n. sym (differs .1 i h n))
+
+holds-written : Held (written everyType) everyType
+holds-written = demand-3 .silent everyTypeBytes (written everyType) everyType holds differs .0
+
+same : SameReading everyTypeBytes (written everyType)
+same = demand-3 .silent everyTypeBytes (written everyType) everyType holds differs .1
+
 seven : (P : ℕ → Type 0) → P 0 → P 1 → P 2 → P 3 → P 4 → P 5 → P 6 → (i : ℕ) → i < 7 → P i
 seven P a b c d e f g zero h = a
 seven P a b c d e f g (suc zero) h = b
@@ -100,6 +110,12 @@ past = ap (λ (a : AttributeAnswer). bytesAt everyTypeBytes (a .part .start) (a 
 handed-back : (i o : ℕ) (l : List ℕ) → o ≡ attributeAnswer everyTypeBytes i .part .start + 4096 → partAt everyTypeBytes i ≡ l → PartHandedBack (lentAt o l) (lentAt 4096 everyTypeBytes) i
 handed-back i o l e f = record { block = refl; offset = e; within = part-inside everyTypeBytes i; has = sym f }
 
+entries-slice : PartHandedBack (lentAt 4552 everyEntries) (lentAt 4096 everyTypeBytes) 2
+entries-slice = handed-back 2 4552 everyEntries (place 2 _ (answers 2 (omega arith))) entries
+
+line-slice : PartHandedBack (lentAt 4712 everyLine) (lentAt 4096 everyTypeBytes) 4
+line-slice = handed-back 4 4712 everyLine (place 4 _ (answers 4 (omega arith))) line
+
 pub witnessed : Witnessed
 unfolding everyCells total recordsOf bodyPart partBytes filled cells entriesFields
 witnessed =
@@ -112,13 +128,19 @@ witnessed =
       past = is .past;
       entries = entries;
       line = line;
-      entriesSlice = handed-back 2 4552 everyEntries (place 2 _ (answers 2 (omega arith))) entries;
-      lineSlice = handed-back 4 4712 everyLine (place 4 _ (answers 4 (omega arith))) line;
+      entriesSlice = entries-slice;
+      lineSlice = line-slice;
       noSlice = handed-back 7 4096 [] (place 7 _ (is .past 7 (omega arith))) past;
       anyEntries = λ lent s e p. is .slices lent s 2 e (omega arith) p;
+      anyPast = λ lent s i e h p. is .noSlices lent s i e h p;
       anyLine = λ lent s e p. is .slices lent s 4 e (omega arith) p;
       differs = differs;
       noisy = λ i h e. (sym (laid i) ∙ silent-noise everyCells (junk 5) i (omega (arith, wide)) e, silent-zero everyCells i e);
-      same = demand-3 .silent everyTypeBytes (written everyType) everyType holds differs .1;
+      same = same;
+      holdsWritten = holds-written;
+      differsBack = differs-back;
+      sameBack = demand-3 .silent (written everyType) everyTypeBytes everyType holds-written differs-back .1;
+      writtenEntries = λ lent s e p. same .slices (lentAt 4552 everyEntries) lent (lentAt 4096 everyTypeBytes) s 2 refl e entries-slice p;
+      writtenLine = λ lent s e p. same .slices (lentAt 4712 everyLine) lent (lentAt 4096 everyTypeBytes) s 4 refl e line-slice p;
       short = λ b o. (refl, refl, refl, refl);
     }

@@ -1,5 +1,6 @@
 -- Demand 3 does not speak of nothing: a buffer that holds a context with every type of attribute, what the calls answer of it, written
--- out by hand from document 01, and a second buffer that differs from it in every silent byte of its used length and ends there.
+-- out by hand from document 01, and a second buffer that differs from it in every silent byte of its used length and ends there; each
+-- is the second of the other.
 -- (Examples, of crate ultra_format, has the context and its bytes.) And a platform of 56 bytes is answered without late members. Proved
 -- in proofs/Witness.antt: `witnessed`.
 -- Assumes nothing.
@@ -136,11 +137,19 @@ pub record Witnessed : Type 0 where
   pub lineSlice : PartHandedBack (lentAt 4712 everyLine) (lentAt 4096 everyTypeBytes) 4
   pub noSlice : PartHandedBack (lentAt 4096 []) (lentAt 4096 everyTypeBytes) 7
   pub anyEntries : (lent s : RefT (List ℕ)) → s .now ≡ everyTypeBytes → PartHandedBack lent s 2 → PartOf lent s (part 456 48) × (lent .now ≡ everyEntries)
+  pub anyPast : (lent s : RefT (List ℕ)) (i : ℕ) → s .now ≡ everyTypeBytes → 7 ≤ i → PartHandedBack lent s i → lent .now ≡ []
   pub anyLine : (lent s : RefT (List ℕ)) → s .now ≡ everyTypeBytes → PartHandedBack lent s 4 → PartOf lent s (part 616 8) × (lent .now ≡ everyLine)
   -- its silent bytes are 165; a writer writes zeros there, and the readings are the same
   pub differs : DiffersInSilence everyType everyTypeBytes (written everyType)
   pub noisy : (i : ℕ) → i < used everyType → Silent everyType i → (getD everyTypeBytes i 0 ≡ 165) × (getD (written everyType) i 0 ≡ 0)
   pub same : SameReading everyTypeBytes (written everyType)
+  -- and back, from the zeros to the 165s, and from the used length on to five bytes more
+  pub holdsWritten : Held (written everyType) everyType
+  pub differsBack : DiffersInSilence everyType (written everyType) everyTypeBytes
+  pub sameBack : SameReading (written everyType) everyTypeBytes
+  -- the slices of what is written, wherever it is lent
+  pub writtenEntries : (lent s : RefT (List ℕ)) → s .now ≡ written everyType → PartHandedBack lent s 2 → lent .now ≡ everyEntries
+  pub writtenLine : (lent s : RefT (List ℕ)) → s .now ≡ written everyType → PartHandedBack lent s 4 → lent .now ≡ everyLine
   -- "Reading dtb from a 56-byte platform attribute, out of the kernel attribute behind it." looks right and is not
   pub short : (b : List ℕ) (o : ℕ) → let p = platformRecord (platformAt b o 56) in
       (p .«higher_half_base» ≡ wide.Absent) × (p .depth ≡ narrow.Absent) × (p .dtb ≡ wide.Absent) × (p .smbios ≡ wide.Absent)
