@@ -5,7 +5,7 @@ use Prim.Native.Nat.{ℕ, _+_, _*_, _/_, _≤_, _<_}
 use mathlib.Core.Path.{_≡_, refl, sym, ap, _∙_}
 use mathlib.Core.Bool.{Bool, true, false}
 use mathlib.Core.List.{List, [], _∷_, _++_}
-use mathlib.Core.Logic.{_↔_, _⊎_, _⊎_.inl, _⊎_.inr}
+use mathlib.Core.Logic.{_↔_, _⊎_.inl, _⊎_.inr}
 use native.Mathlib.Omega.{arith}
 use lib.ListN.{length}
 use lib.Dec.{leb, ltb}
@@ -25,7 +25,7 @@ use Rattle.ultra_questions.specs.Searching.{firstIn, foundStart}
 use Rattle.ultra_questions.specs.MapQuestion.{numbers, mapIn, mapCopiedBytes}
 use Rattle.ultra_questions.specs.CommandLineQuestion.{commandLineIn, textIn}
 use Rattle.ultra_questions.specs.ModuleQuestion.{covers, holding, moduleIn}
-use Rattle.ultra_questions.specs.ByIndex.{Holds, HoldsAt, NoneHolds, FirstHolds, QuestionsByIndex}
+use Rattle.ultra_questions.specs.ByIndex.{Holds, HoldsAt, NoneHolds, FirstHolds, ModuleStart, QuestionsByIndex}
 use Rattle.ultra_questions.proofs.FirstByIndex.{Outcome, outcome, found-type, found-none}
 use Rattle.ultra_questions.proofs.MapBytes.{over-numbers}
 use Rattle.ultra_questions.proofs.ByContext.{questions-by-context}
@@ -63,11 +63,8 @@ module _ (c : Context) (a : ℕ) where
   not-held : (i : ℕ) → holding a (bodyAt c i) ≡ false → HoldsAt c a i → ⊥
   not-held i e h = clash (sym e ∙ at-held i h)
 
-  abbrev Said : ℕ → Type 0
-  Said o = ((o ≡ 0) × NoneHolds c a) ⊎ ((i : ℕ) × (o ≡ startIn (c .attributes) i) × FirstHolds c a i)
-
   -- what is answered, and that nothing else is said
-  said : Outcome (holding a) 8 (c .attributes) (firstIn (holding a) c) → Said (foundStart (firstIn (holding a) c))
+  said : Outcome (holding a) 8 (c .attributes) (firstIn (holding a) c) → ModuleStart c a (foundStart (firstIn (holding a) c))
   said (inl r) = inl (ap foundStart (r .0), λ i h. not-held i (r .1 i (h .0)) h)
   said (inr f) = inr (f .index, ap foundStart (f .is), (held-at (f .index) (f .below) (f .meets), λ j k. not-held j (f .before j k)))
 
@@ -77,22 +74,22 @@ module _ (c : Context) (a : ℕ) where
       let q : j < i → ⊥ = λ k. g .1 j k (h .0) in
       omega arith
 
-  said-once : (o u : ℕ) → Said o → Said u → o ≡ u
+  said-once : (o u : ℕ) → ModuleStart c a o → ModuleStart c a u → o ≡ u
   said-once o u (inl x) (inl y) = x .0 ∙ sym (y .0)
   said-once o u (inl x) (inr y) = absurd (x .1 (y .0) (y .2 .0))
   said-once o u (inr x) (inl y) = absurd (y .1 (x .0) (x .2 .0))
   said-once o u (inr x) (inr y) = x .1 ∙ ap (startIn (c .attributes)) (first-is (x .0) (y .0) (x .2) (y .2)) ∙ sym (y .1)
 
-  start-said : Said (foundStart (firstIn (holding a) c))
+  start-said : ModuleStart c a (foundStart (firstIn (holding a) c))
   start-said = said (outcome (holding a) 8 (c .attributes))
 
-  modules-said : (o : ℕ) → (moduleIn c a ≡ Done o) ↔ Said o
+  modules-said : (o : ℕ) → (moduleIn c a ≡ Done o) ↔ ModuleStart c a o
   modules-said o = (λ e. let q : foundStart (firstIn (holding a) c) ≡ o = cc in rw q at start-said, λ s. ap Done (said-once _ o start-said s))
 
   none-said : (moduleIn c a ≡ Done 0) ↔ NoneHolds c a
   none-said = (λ e. only (modules-said 0 .0 e), λ n. modules-said 0 .1 (inl (refl, n)))
     where
-      only : Said 0 → NoneHolds c a
+      only : ModuleStart c a 0 → NoneHolds c a
       only (inl x) = x .1
       only (inr x) = absurd (omega (arith, x .1))
 

@@ -12,3 +12,4 @@ pub mod FirstByIndex
 pub mod QuestionRefusals
 pub mod ByIndex
 pub mod MapAsBytes
+pub mod EveryBuffer

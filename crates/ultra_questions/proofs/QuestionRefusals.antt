@@ -36,7 +36,7 @@ use Rattle.ultra_questions.proofs.PartCells.{slice-empty}
 use Rattle.ultra_questions.proofs.ByContext.{questions-by-context}
 
 -- no success is a refusal
-done-refused : (v : ℕ) (r : Refusal) → Done v ≡ Refused r → ⊥
+pub done-refused : (v : ℕ) (r : Refusal) → Done v ≡ Refused r → ⊥
 done-refused v r e = let z : _≡_ {A = ℕ} 0 1 = cc in omega arith
 
 -- a refusal is its number and its offset
@@ -72,7 +72,7 @@ module _ (m : ℕ) (es : List Entry) (out : List ℕ) where
 
 -- ---- the map of a context
 -- no body without members is of type 3
-map-body : (x : Body) → TypeSuits x → typeOf x ≡ 3 → (es : List Entry) × (x ≡ memoryMap es)
+pub map-body : (x : Body) → TypeSuits x → typeOf x ≡ 3 → (es : List Entry) × (x ≡ memoryMap es)
 map-body (platform p) u e = absurd (omega arith)
 map-body (kernel k) u e = absurd (omega arith)
 map-body (memoryMap es) u e = (es, refl)

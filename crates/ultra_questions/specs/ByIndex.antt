@@ -32,9 +32,13 @@ NoneHolds c a = (i : ℕ) → HoldsAt c a i → ⊥
 abbrev pub FirstHolds : Context → ℕ → ℕ → Type 0
 FirstHolds c a i = HoldsAt c a i × ((j : ℕ) → j < i → HoldsAt c a j → ⊥)
 
+-- "the attribute start of the first module .., or 0"
+abbrev pub ModuleStart : Context → ℕ → ℕ → Type 0
+ModuleStart c a o = ((o ≡ 0) × NoneHolds c a) ⊎ ((i : ℕ) × (o ≡ startIn (c .attributes) i) × FirstHolds c a i)
+
 pub record ByIndex (b : List ℕ) (c : Context) : Type 0 where
-  -- "the attribute start of the first module .., or 0"; 0 tells that there is none
-  pub modules : (a o : ℕ) → (moduleHolding b a ≡ Done o) ↔ (((o ≡ 0) × NoneHolds c a) ⊎ ((i : ℕ) × (o ≡ startIn (c .attributes) i) × FirstHolds c a i))
+  -- 0 tells that there is none
+  pub modules : (a o : ℕ) → (moduleHolding b a ≡ Done o) ↔ ModuleStart c a o
   pub noModule : (a : ℕ) → (moduleHolding b a ≡ Done 0) ↔ NoneHolds c a
   -- "The map copied out as 64-bit numbers"; "elements past the last triple stay. Success answers the number of entries."
   pub map : (i : ℕ) (es : List Entry) (out : List ℕ) → i < count c → bodyAt c i ≡ memoryMap es → 3 * length es ≤ length out

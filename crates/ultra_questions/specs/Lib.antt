@@ -9,3 +9,4 @@ pub mod ByContext
 pub mod ByIndex
 pub mod QuestionRefusals
 pub mod MapAsBytes
+pub mod EveryBuffer
