@@ -7,3 +7,4 @@ pub mod Decoded
 pub mod Given
 pub mod Witness
 pub mod Numbers
+pub mod MemberCases

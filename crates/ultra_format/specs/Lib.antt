@@ -11,3 +11,4 @@ pub mod Decoding
 pub mod Records
 pub mod Examples
 pub mod Additions
+pub mod MemberCases
