@@ -1,6 +1,6 @@
--- Document 01's rules in digits: values just inside and just outside each, with the number that 01 gives for them. The rules on members and
--- places are one definition each, which reading, adding and the rules share, so that nothing else would tell a wrong one. Every number is
--- written out, so that the names of the numbers are held too. The theorem is proofs/MemberCases.antt.
+-- Document 01's rules in digits: values just inside and just outside each, with the number that 01 gives for them. A rule on members or
+-- places is one definition, which reading, adding and the rules of the format share: no theorem that compares these would notice a wrong
+-- one. Numbers are digits here and not names, so that a wrong name is noticed too. The theorems are in proofs/MemberCases.antt.
 -- Assumes nothing.
 use Prim.Native.Nat.{ℕ}
 use mathlib.Core.Path.{_≡_}
@@ -8,6 +8,8 @@ use mathlib.Core.Bool.{Bool, true, false}
 use mathlib.Core.List.{List, [], _∷_, _++_}
 use lib.ListN.{length, replicate}
 use Rattle.ultra_format.specs.Refusals.{SHORT, VERSION, COUNT, MISSING, HEADER, SIZE, OVERRUN, TYPE, PLACE, REPEAT, SPLIT, FORM, VALUE, TEXT, RANGE, ORDER, FULL, ROOM, ABSENT}
+use Rattle.ultra_format.specs.Answers.{refused, numberOf, valueOf}
+use Rattle.ultra_format.specs.declared.Answer.the-variants.{Done}
 use Rattle.ultra_format.specs.Contexts.{Member, Entry, Body}
 use Rattle.ultra_format.specs.Contexts.{Member.present, Member.absent, Body.platform, Body.memoryMap, Body.commandLine, Body.other}
 use Rattle.ultra_format.specs.Layouts.{roomOf}
@@ -19,12 +21,12 @@ use Rattle.ultra_format.specs.Additions.{Addition.addMap}
 use Rattle.ultra_format.specs.Examples.{zeros}
 
 -- what a definition gives, and what 01 says
+infix 70 _gives_
+infix 70 _is_
 pub data Case : Type 0 where
   _gives_ : ℕ → ℕ → Case
   _is_ : Bool → Bool → Case
 
-infix 70 _gives_
-infix 70 _is_
 abbrev pub Holds : Case → Type 0
 Holds (x gives n) = x ≡ n
 Holds (x is v) = x ≡ v
@@ -184,6 +186,9 @@ valueCases =
     ∷ bodyFault 32 (pixels 4 32) gives 0
     ∷ bodyFault 32 (pixels 5 24) gives 13
     ∷ bodyFault 32 (pixels 5 32) gives 13
+    ∷ bodyFault 32 (pixels 1 23) gives 13
+    ∷ bodyFault 32 (pixels 1 25) gives 13
+    ∷ bodyFault 32 (pixels 3 31) gives 13
     -- "pitch × 8 at least width × bpp": width, height, pitch, bpp, format, address
     ∷ bodyFault 32 (framebufferOf 3 1 8 24 1 0) gives 13
     ∷ bodyFault 32 (framebufferOf 3 1 9 24 1 0) gives 0
@@ -305,6 +310,7 @@ placeCases =
     ∷ placed 1 1 is false
     ∷ placed 1 2 is true
     ∷ placed 1 3 is false
+    ∷ placed 2 0 is true
     ∷ placed 2 1 is false
     ∷ placed 2 2 is false
     ∷ placed 2 3 is true
@@ -408,6 +414,11 @@ numberCases =
     ∷ FULL gives 17
     ∷ ROOM gives 18
     ∷ ABSENT gives 19
+    -- "0 is success, with the used length after it"; "Otherwise a number and an offset"
+    ∷ numberOf (Done 576) gives 0
+    ∷ valueOf (Done 576) gives 576
+    ∷ numberOf (refused 12 432) gives 12
+    ∷ valueOf (refused 12 432) gives 432
     ∷ []
 
 abbrev pub cases : List Case
