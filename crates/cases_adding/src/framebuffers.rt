@@ -17,6 +17,7 @@ fn pixels(label: &[u8], format: u16, bpp: u16) {
 
 fn three_bytes() {
     pixels(b"framebuffer", 3, 32);
+    pixels(b"framebuffer of format 0, 24 bits", 0, 24);
     pixels(b"framebuffer of format 0, 32 bits", 0, 32);
     pixels(b"framebuffer of format 1, 24 bits", 1, 24);
     pixels(b"framebuffer of format 1, 32 bits", 1, 32);
@@ -28,6 +29,7 @@ fn four_bytes() {
     pixels(b"framebuffer of format 3, 24 bits", 3, 24);
     pixels(b"framebuffer of format 4, 24 bits", 4, 24);
     pixels(b"framebuffer of format 4, 32 bits", 4, 32);
+    pixels(b"framebuffer of format 5, 24 bits", 5, 24);
     pixels(b"framebuffer of format 5, 32 bits", 5, 32);
 }
 

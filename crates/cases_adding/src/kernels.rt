@@ -32,6 +32,10 @@ fn pages() {
     place(b"kernel at physical 4095", 4095, 4096, 4096);
     place(b"kernel at virtual 4095", 4096, 4095, 4096);
     place(b"kernel of 4095 bytes", 4096, 4096, 4095);
+    place(b"kernel at physical 2048", 2048, 4096, 4096);
+    place(b"kernel at virtual 2048", 4096, 2048, 4096);
+    place(b"kernel of 2048 bytes", 4096, 4096, 2048);
+    place(b"kernel of 4096 bytes at 4096", 4096, 4096, 4096);
     place(b"kernel of 0 bytes at 0", 0, 0, 0);
 }
 

@@ -9,6 +9,7 @@ fn map(label: &[u8], numbers: &[u64]) {
 fn order() {
     map(b"map (0, 4096), (4096, 1)", &[0, 4096, 1, 4096, 1, 1]);
     map(b"map (0, 4097), (4096, 1)", &[0, 4097, 1, 4096, 1, 1]);
+    map(b"map (0, 8192), (4096, 1)", &[0, 8192, 1, 4096, 1, 1]);
     map(b"map of two empty entries at 5", &[5, 0, 1, 5, 0, 1]);
     map(
         b"map, 0 bytes at 0 behind an end at 2^64",

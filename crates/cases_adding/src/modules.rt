@@ -30,6 +30,8 @@ fn place(label: &[u8], address: u64, size: u64) {
 
 fn places() {
     place(b"module at 4095", 4095, 4096);
+    place(b"module at 2048", 2048, 4096);
+    place(b"module at 4096", 4096, 4096);
     place(b"module of 0 bytes at 0", 0, 0);
     place(b"module, end at 2^64", 18446744073709547520, 4096);
     place(b"module, end above 2^64", 18446744073709547520, 4097);

@@ -1,5 +1,7 @@
-// Runs document 01's cases that are not marked *, as far as they concern reading, and those of the readings that "look right and are
-// not" which an answer of reading can show: all but dtb from a 56-byte platform, which cases_attributes runs.
+// Runs document 01's cases that are not marked *, as far as they concern reading; those of the readings that "look right and are not"
+// which an answer of reading can show: all but dtb from a 56-byte platform, which cases_attributes runs; and the rules on members.
+mod members;
+
 use cases_shared::build;
 use cases_shared::show;
 use ultra_reading::Cursor;
@@ -66,32 +68,6 @@ fn third_of(label: &[u8], kind: u32, size: u32) {
     build::head(&mut space, 3);
     build::platform_and_kernel(&mut space, 88);
     build::header(&mut space, 432, kind, size);
-    read(label, &space, 1024);
-}
-
-// A module whose name is 63 letters and then the byte `last`.
-fn module_name(label: &[u8], last: u8) {
-    let mut space = [0u8; 1024];
-    build::head(&mut space, 3);
-    build::platform_and_kernel(&mut space, 88);
-    build::module(&mut space, 432, 4096, 1);
-    build::put_u64(&mut space, 448, 7016996765293437281);
-    build::put_u64(&mut space, 456, 7016996765293437281);
-    build::put_u64(&mut space, 464, 7016996765293437281);
-    build::put_u64(&mut space, 472, 7016996765293437281);
-    build::put_u64(&mut space, 480, 7016996765293437281);
-    build::put_u64(&mut space, 488, 7016996765293437281);
-    build::put_u64(&mut space, 496, 7016996765293437281);
-    build::put_u64(&mut space, 504, 7016996765293437281);
-    build::put_byte(&mut space, 511, last);
-    read(label, &space, 1024);
-}
-
-fn module_range(label: &[u8], address: u64, size: u64) {
-    let mut space = [0u8; 1024];
-    build::head(&mut space, 3);
-    build::platform_and_kernel(&mut space, 88);
-    build::module(&mut space, 432, address, size);
     read(label, &space, 1024);
 }
 
@@ -188,15 +164,14 @@ fn main() {
     third_of(b"size 0", 7, 0);
     third_of(b"size 4294967288", 7, 4294967288);
     third_of(b"size 4294967295", 7, 4294967295);
-    module_name(b"module name closed at its last byte", 0);
-    module_name(b"module name not closed", b'n');
-    module_range(b"module that ends at 2^64", 18446744073709547520, 4096);
-    module_range(
-        b"module that ends one past 2^64",
-        18446744073709547520,
-        4097,
-    );
+    third_of(b"map of 8 bytes", 3, 8);
+    third_of(b"map of 16 bytes", 3, 16);
+    third_of(b"module of 88 bytes", 4, 88);
+    third_of(b"command line of 8 bytes", 5, 8);
+    third_of(b"command line of 16 bytes", 5, 16);
+    third_of(b"framebuffer of 24 bytes", 6, 24);
     read(b"no bytes", &[0u8; 1024], 0);
     long_buffers();
+    members::all();
     steps();
 }
