@@ -1,77 +1,522 @@
 #!/usr/bin/env python3
-"""Checks that no published call has a `requires`: "no call relies on a check made before it" (demand 1).
+"""Holds the contract of every published call to the definition that README.md and demand 2 name.
 
 usage: published.py [ROOT]     ROOT is the repository's folder
 
-Published are the calls of the tables below "Calls from C" and "Calls from Rattle" in README.md; every exported function of crate ultra has to
-be in the first. Exit status 1 where a call is not found in the source that its row names, or has a `requires`.
+Published are the calls of the tables below "Calls from C" and "Calls from Rattle" in README.md. What is held of each:
+
+    requires    It has none: "no call relies on a check made before it" (demand 1).
+    ensures     It has one, an equation of all that it answers and writes with a term E: `r ≡ E`; `(r, now (P .exit)) ≡ E` where P is lent
+                to write; `PartOf r (buf .entry) (E)` where it hands back a slice.
+    E           It is the term that demand 2 runs the call by, and each name in it is the same definition. The promises use this definition:
+                of a call whose contract was weakened, or cites another one, they would say nothing.
+    its row     The first name in the last cell is that definition, without what crosses it toward C.
+
+Demand 2 runs a call by the equation of `run` (crates/demand_2/specs/Calls.antt) for the case of `Call` whose comment names it, and a call
+toward C by the equation of `runFromC` (CallsFromC.antt) for the case of `CallFromC` with its name. Every case stands for published calls, and
+one case for every published call but `Cursor::first`, which takes no buffer. Every exported function of crate ultra is published.
+Exit status 1, with a line for each problem.
 """
+import collections
 import pathlib
 import re
 import sys
 
-EXPORTED = re.compile(r'^pub extern "C" fn (\w+)', re.M)
+CALLS, CALLS_FROM_C = "crates/demand_2/specs/Calls.antt", "crates/demand_2/specs/CallsFromC.antt"
+ADDITIONS = "crates/ultra_format/specs/Additions.antt"
+# The call that no case stands for: its term, and where the names in it come from.
+WITHOUT_BUFFER = {"Cursor::first": ("cursorAt 0 8", {"cursorAt": "Rattle.ultra_reading.specs.Stepping.cursorAt"})}
+RELATIONS = {"≡": ("_≡_", "mathlib.Core.Path._≡_"), "PartOf": ("PartOf", "Rattle.ultra_questions.specs.Parts.PartOf")}
+# What stands around the definition that README.md names.
+AROUND = {"answerCrossed", "stepCrossed", "readingCrossed", "partCrossed", "crossed", "length"}
+# What `run` and `runFromC` make of a term: both halves of its pair, or the place and the bytes of a part.
+WRITES = {"answerAnd r": "(answer (r .0), r .1)", "numberAnd r": "(number (r .0), r .1)"}
+LENDS = {"lentPart b p": "lent p (bytesAt b (p .start) (p .length))"}
+
+Call = collections.namedtuple("Call", "path file cell")
+Function = collections.namedtuple("Function", "parameters lent clauses imports")
+Spec = collections.namedtuple("Spec", "file text imports")
+Case = collections.namedtuple("Case", "name type calls spec runner")
+Held = collections.namedtuple("Held", "form term imports")
+
+
+class Unreadable(Exception):
+    """What is not of a form that is held; the message says what was found and what was expected."""
+
+
+# ---- Terms: a name, or a tuple of terms. A parameter of the function is marked by « ». ----
+
+TOKEN = re.compile(r"(«\w+»|[A-Za-z][A-Za-z0-9'-]*(?:\.[A-Za-z][A-Za-z0-9'-]*)*|\.\w+|\d+|[(),≡])|(\S)")
+
+
+def one(terms):
+    return terms[0] if len(terms) == 1 else tuple(terms)
+
+
+def parsed(text, where=""):
+    """The term that a text spells. An operator other than ≡ is in none that is held."""
+    open_terms = [[]]
+    for token, other in TOKEN.findall(text):
+        if other or (token == ")" and len(open_terms) == 1):
+            raise Unreadable(f"{where}`{other or token}` in `{' '.join(text.split())}`, expected names and parentheses alone")
+        if token == "(":
+            open_terms.append([])
+        elif token == ")":
+            inner = open_terms.pop()
+            open_terms[-1].append(one(inner))
+        else:
+            open_terms[-1].append(token)
+    if len(open_terms) != 1:
+        raise Unreadable(f"{where}parentheses that do not close in `{' '.join(text.split())}`")
+    return one(open_terms[0])
+
+
+def shown(term):
+    if isinstance(term, str):
+        return term.strip("«»")
+    return " ".join(f"({shown(part)})" if isinstance(part, tuple) else shown(part) for part in term).replace(" ,", ",")
+
+
+def divided(term, mark):
+    """The terms between the marks."""
+    groups = [[]]
+    for part in term if isinstance(term, tuple) else (term,):
+        if part == mark:
+            groups.append([])
+        else:
+            groups[-1].append(part)
+    return [one(group) for group in groups]
+
+
+def substituted(term, values):
+    return tuple(substituted(part, values) for part in term) if isinstance(term, tuple) else values.get(term, term)
+
+
+def at_entry(term):
+    """The term with X for `now (X .entry)`."""
+    if isinstance(term, str):
+        return term
+    if len(term) == 2 and term[0] == "now" and isinstance(term[1], tuple) and len(term[1]) == 2 and term[1][1] == ".entry":
+        return term[1][0]
+    return tuple(at_entry(part) for part in term)
+
+
+def unqualified(term):
+    """The term with the last part of each name: `addMap` for `Addition.addMap`."""
+    if isinstance(term, tuple):
+        return tuple(unqualified(part) for part in term)
+    return term if term.startswith(".") else term.split(".")[-1]
+
+
+def definitions(term):
+    """The names in a term that are no parameters, in their order."""
+    if isinstance(term, tuple):
+        return [name for part in term for name in definitions(part)]
+    return [term] if term[:1].isalpha() else []
+
+
+def headed(term):
+    """The definition that a term is of, without what crosses it."""
+    while isinstance(term, tuple) and len(term) == 2 and term[0] in AROUND:
+        term = term[1]
+    return headed(term[0]) if isinstance(term, tuple) and term else term
+
+
+# ---- What more than one kind of file has ----
+
+
+def read(file):
+    return file.read_text(encoding="utf-8") if file.is_file() else ""
+
+
+def imported(text):
+    """The whole name of each name that `use M.{a, b as c, N.d}` brings. A crate's own specs have the name that they have elsewhere."""
+    brought = {}
+    for module, items in re.findall(r"^(?:ghost )?use ([^\s{};]+)\.\{([^}]*)\}", text, re.M):
+        for item in filter(None, map(str.strip, items.split(","))):
+            whole, _, alias = item.partition(" as ")
+            name = alias.strip() or whole.split(".")[-1]
+            origin = f"{module.replace('·specs.', '.')}.{whole}"
+            if brought.setdefault(name, origin) != origin:
+                raise Unreadable(f"`{name}` is imported twice, as {brought[name]} and as {origin}")
+    return brought
+
+
+def whole_name(name, imports):
+    first, *rest = name.split(".")
+    if first not in imports:
+        raise Unreadable(f"`{first}` comes from no `use`, expected one")
+    return ".".join([imports[first], *rest])
+
+
+def listed(text):
+    """The calls in backticks, without arguments and result. Those after the first have its path."""
+    calls = [re.sub(r"[(\s].*", "", item) for item in re.findall(r"`([^`]+)`", text)]
+    path = calls[0].rpartition("::")[0] if calls else ""
+    return [f"{path}::{call}" if path and "::" not in call else call for call in calls]
+
+
+def camel(name):
+    return re.sub(r"_([a-z])", lambda found: found[1].upper(), name)
+
+
+def snake(name):
+    return re.sub(r"[A-Z]", lambda found: f"_{found[0].lower()}", name)
+
+
+# ---- README.md ----
 
 
 def rows(readme, title):
     """The cells of each row of the table below a heading."""
-    section = readme.split(f"### {title}\n", 1)[1].split("\n## ", 1)[0].split("\n### ", 1)[0]
+    section = readme.partition(f"### {title}\n")[2].split("\n## ", 1)[0].split("\n### ", 1)[0]
     lines = [line for line in section.split("\n") if line.startswith("| `")]
-    return [[cell.strip() for cell in line.strip("|").split(" | ")] for line in lines]
+    found = [[cell.strip() for cell in line.strip().strip("|").split(" | ")] for line in lines]
+    if not found or min(map(len, found)) < 3:
+        raise Unreadable(f"README.md: no table below `{title}`, or a row of fewer than 3 cells")
+    return found
 
 
-def names(cell):
-    """The names of the calls in a cell, without crate, arguments and result."""
-    return [re.sub(r"[(\s].*", "", item).split("::")[-1] for item in re.findall(r"`([^`]+)`", cell)]
-
-
-def heading(source, name):
-    """A function from its name up to its body, or None."""
-    found = re.search(rf"\bfn {name}\b.*?^\s*\{{", source, re.M | re.S)
-    return found and found.group()
-
-
-def of_rattle(readme, root):
-    """(name, file) for each call of the table of Rattle's."""
-    crate = file = None
-    for call, source, *_ in rows(readme, "Calls from Rattle"):
+def calls_from_rattle(readme, root):
+    file = root
+    for names, source, *cells in rows(readme, "Calls from Rattle"):
         if source != "the same":
-            crate, file = source.split(", ")
-        yield from ((name, root / "crates" / crate / file) for name in names(call))
+            crate, _, path = source.partition(", ")
+            file = root / "crates" / crate / path
+        yield from (Call(path, file, cells[-1]) for path in listed(names))
 
 
-def of_c(readme, root):
-    """The same for C: each file of crate ultra that exports something."""
-    listed = {name for row in rows(readme, "Calls from C") for name in names(row[0])}
-    for file in sorted((root / "crates" / "ultra" / "src").glob("*.rt")):
-        for name in EXPORTED.findall(file.read_text()):
-            listed.discard(name)
-            yield name, file
-    yield from ((name, None) for name in sorted(listed))
+def exported(root):
+    """The file of each function that crate ultra exports."""
+    files = sorted((root / "crates/ultra/src").glob("*.rt"))
+    return {name: file for file in files for name in re.findall(r'^pub extern "C" fn (\w+)', read(file), re.M)}
+
+
+def calls_from_c(readme, root):
+    files = exported(root)
+    for names, *_, cell in rows(readme, "Calls from C"):
+        yield from (Call(name, files.get(name, root / "crates/ultra/src"), cell) for name in listed(names))
+
+
+# ---- Functions ----
+
+
+def inside(text, start, ends):
+    """(what stands between the bracket at start and the one that closes it, where it goes on)"""
+    depth = 0
+    for at in range(start, len(text)):
+        depth += (text[at] == ends[0]) - (text[at] == ends[1])
+        if depth == 0:
+            return text[start + 1:at], at + 1
+    raise Unreadable(f"`{ends[0]}` that does not close")
+
+
+def parameters_of(text):
+    """(name, whether it is lent to write) of each parameter."""
+    for parameter in filter(None, re.split(r",\s*(?=\w+\s*:|$)", text.strip())):
+        found = re.fullmatch(r"(?:mut )?(\w+): ((?:[^:]|::)+)|(self)", parameter)
+        if not found:
+            raise Unreadable(f"a parameter `{parameter}`, expected a name and a type, or self")
+        yield found[1] or found[3], bool(re.match(r"&\s*(?:'\w+\s+)?mut\b", found[2] or ""))
+
+
+def clauses_of(text, at):
+    """(kind, text) of each clause, after the parameters and the result, up to the body."""
+    at = re.compile(r"(?:\s*->\s*\S+)?").match(text, at).end()
+    clauses = []
+    while True:
+        found = re.compile(r"\s*(\w*)\s*(?=\{)").match(text, at)
+        if not found:
+            raise Unreadable("a heading of another form than `fn name(..) -> type ensures { .. }`")
+        if not found[1]:
+            return clauses
+        clause, at = inside(text, found.end(), "{}")
+        clauses.append((found[1], clause))
+
+
+def passed_on(call):
+    """Whether the crate passes the function of that file on under the call's path."""
+    *owners, name = call.path.split("::")
+    crate, module = call.file.parents[1].name, call.file.stem
+    if owners and owners[0][0].isupper():
+        owners, name = [crate], owners[0]
+    if not owners or (owners, module) == ([crate], "lib"):
+        return True
+    line = {(crate,): f"pub use {module}::{name};", (crate, module): f"pub mod {module};"}.get(tuple(owners))
+    return line in read(call.file.with_name("lib.rt")).split("\n")
+
+
+def function_of(call):
+    name = call.path.split("::")[-1]
+    source = read(call.file)
+    found = [line for line in re.finditer(rf"^.*\bfn {name}\b", source, re.M) if not line[0].lstrip().startswith("//")]
+    if len(found) != 1:
+        raise Unreadable(f"found {len(found)} times, expected once")
+    if not re.fullmatch(r'\s*pub (?:extern "C" )?fn \w+', found[0][0]) or source[found[0].end():][:1] != "(" or "/*" in source:
+        raise Unreadable(f"`{found[0][0].strip()}`, expected `pub fn {name}(..)` in a file without block comments")
+    if not passed_on(call):
+        raise Unreadable("lib.rt does not pass it on under this path, expected a `pub use` or `pub mod`")
+    inner, at = inside(source, found[0].end(), "()")
+    parameters = list(parameters_of(inner))
+    lent = [parameter for parameter, to_write in parameters if to_write]
+    return Function([parameter for parameter, _ in parameters], lent, clauses_of(source, at), imported(source))
+
+
+def stated(function):
+    """The assertion of the one clause, as a term."""
+    kinds = [kind for kind, _ in function.clauses]
+    if kinds != ["ensures"]:
+        raise Unreadable(f"has {', '.join(f'`{kind}`' for kind in kinds) or 'no clause'}, expected one `ensures` and no `requires`")
+    text = " ".join(function.clauses[0][1].split())
+    found = re.fullmatch(r"λ r\. ⌜([^⌜⌝]*)⌝", text)
+    if not found:
+        raise Unreadable(f"ensures `{text}`, expected `λ r. ⌜ .. ⌝`")
+    if len(function.lent) > 1 or {"r", "now", "PartOf"} & set(function.parameters):
+        raise Unreadable(f"parameters {', '.join(function.parameters)}, expected one `&mut` at most, and none named r, now or PartOf")
+    return parsed(found[1])
+
+
+def left_side(function):
+    """All that the call answers and writes."""
+    spelled = [f"«{name}»" if "_" in name else name for name in function.lent]
+    return f"(r, now ({spelled[0]} .exit))" if spelled else "r"
+
+
+def contract(function):
+    """What the contract equates the call with."""
+    said, left = stated(function), left_side(function)
+    if not function.lent and len(said) == 4 and said[:3] == ("PartOf", "r", ("buf", ".entry")):
+        form, relation, term = "part", "PartOf", said[3]
+    else:
+        sides = divided(said, "≡")
+        if len(sides) != 2 or sides[0] != parsed(left):
+            raise Unreadable(f"ensures `{shown(said)}`, expected `{left} ≡ ..`")
+        form, relation, term = "writes" if function.lent == ["buf"] else "reads", "≡", sides[1]
+    name, origin = RELATIONS[relation]
+    if whole_name(name, function.imports) != origin:
+        raise Unreadable(f"{relation} is {whole_name(name, function.imports)}, expected {origin}")
+    marked = {parameter: f"«{parameter}»" for parameter in function.parameters}
+    return Held(form, substituted(at_entry(term), marked), function.imports)
+
+
+# ---- Demand 2 ----
+
+
+def spec_of(root, path):
+    text = re.sub(r"(?s)\{-.*?-\}", "", read(root / path))
+    return Spec(path, text, imported(text))
+
+
+def cases(spec, data, runner=None):
+    """Each case of a data type, with the calls that the comment before it names."""
+    found = re.search(rf"^pub data {data} : .* where\n((?:(?:[ \t].*)?\n)*)", spec.text + "\n", re.M)
+    comment, taken = "", []
+    for line in filter(str.strip, found[1].split("\n") if found else []):
+        case = re.fullmatch(r"  ([A-Za-z]\w*) : (.*)", line)
+        if line.strip().startswith("--"):
+            comment += line
+        elif not case:
+            raise Unreadable(f"{spec.file}: `{line.strip()}` in data {data}, expected a case")
+        else:
+            taken.append(Case(case[1], case[2], listed(comment), spec, runner))
+            comment = ""
+    if not taken:
+        raise Unreadable(f"{spec.file}: no cases of data {data}")
+    return taken
+
+
+def equations(spec, name):
+    """(left side, text of the right side) of each equation of a definition."""
+    text = re.sub(r"(?m)(^|\s)--.*", r"\1", spec.text)
+    for equation in re.findall(rf"^{name} .*(?:\n[ \t]+.*)*", text, re.M):
+        left, *right = re.split(r"\s=\s", equation, maxsplit=1)
+        if not right:
+            raise Unreadable(f"{spec.file}: `{equation}`, expected an equation")
+        yield parsed(left, f"{spec.file}: "), right[0]
+
+
+def pattern(left):
+    """(constructor, variables) of an equation's first argument."""
+    return (left[1][0], left[1][1:]) if isinstance(left[1], tuple) else (left[1], ())
+
+
+def unfolded(term, spec):
+    """The term without `membersFormed` and `membersBody`, by their equations."""
+    if isinstance(term, str):
+        return term
+    term = tuple(unfolded(part, spec) for part in term)
+    if term[:1] not in (("membersFormed",), ("membersBody",)):
+        return term
+    for left, right in equations(spec, term[0]):
+        constructor, variables = pattern(left)
+        if (constructor, len(variables)) == (term[1][0], len(term[1]) - 1):
+            return substituted(parsed(right, f"`{term[0]}`, {spec.file}: "), dict(zip(variables, term[1][1:])))
+    raise Unreadable(f"no equation of `{term[0]}` for `{shown(term[1])}`, {spec.file}")
+
+
+def place_of(case):
+    return f"`{case.runner}` of `{case.name}`, {case.spec.file}: "
+
+
+def equation_of(case):
+    """(variables, buffer, right side) of the equation that runs a case."""
+    found = [sides for sides in equations(case.spec, case.runner) if pattern(sides[0])[0] == case.name]
+    if len(found) != 1 or len(found[0][0]) != 3:
+        raise Unreadable(f"{place_of(case)}{len(found)} equations, expected one, of a call and a buffer")
+    left, right = found[0]
+    return pattern(left)[1], left[2], parsed(right, place_of(case))
+
+
+def run_by(case, buffer, right, replies):
+    """(form, term) of the right side that runs a case."""
+    reply, *after = divided(right, ",")
+    if not after and len(reply) == 2 and f"{reply[0]} r" in WRITES:
+        return "writes", reply[1]
+    if len(after) != 1 or isinstance(reply, str):
+        raise Unreadable(f"{place_of(case)}`{shown(right)}`, expected `answerAnd (..)`, `numberAnd (..)` or `(.. (..), {buffer})`")
+    if after[0] != buffer:
+        raise Unreadable(f"{place_of(case)}the buffer afterwards is `{shown(after[0])}`, expected `{buffer}`")
+    if len(reply) == 3 and reply[:2] == ("lentPart", buffer):
+        return "part", reply[2]
+    if len(reply) == 2 and reply[0] in replies:
+        return "reads", reply[1]
+    raise Unreadable(f"{place_of(case)}the reply `{shown(reply)}`, expected a case of Reply or `lentPart {buffer}`, with one term")
+
+
+def gathering(case, name):
+    """The constructor that a function's parameters are gathered by where the case takes one thing, or None."""
+    if case.type == "Addition → Call":
+        return "Addition." + camel(name)
+    if case.type == "Members → Call":
+        return camel(name.removeprefix("add_")) + "Members"
+    return None
+
+
+def demanded(call, function, case, replies):
+    """What demand 2 runs the call by, at the function's parameters."""
+    variables, buffer, right = equation_of(case)
+    form, term = run_by(case, buffer, right, replies)
+    given = [f"«{name}»" for name in function.parameters if name != "buf"]
+    if "buf" not in function.parameters:
+        raise Unreadable(f"parameters {', '.join(function.parameters)}, expected buf")
+    gathered = gathering(case, call.path.split("::")[-1])
+    values = [(gathered, *given)] if gathered else given
+    if len(values) != len(variables):
+        raise Unreadable(f"{len(values)} parameters beside buf, expected {len(variables)} as in `{case.name}`, {case.spec.file}")
+    put_in = substituted(term, {**dict(zip(variables, values)), buffer: "«buf»"})
+    return Held(form, unfolded(put_in, case.spec), case.spec.imports)
+
+
+# ---- What is held ----
+
+FORMS = {"writes": "(r, now (buf .exit)) ≡ ..", "reads": "an equation that leaves buf as it is", "part": "PartOf r (buf .entry) (..)"}
+
+
+def differences(found, wanted, named_by):
+    """What tells a contract from what is wanted."""
+    if found.form != wanted.form:
+        return [f"contract of the form `{FORMS[found.form]}`, expected `{FORMS[wanted.form]}` ({named_by})"]
+    if shown(unqualified(found.term)) != shown(unqualified(wanted.term)):
+        return [f"contract has `{shown(unqualified(found.term))}`, expected `{shown(unqualified(wanted.term))}` ({named_by})"]
+    if unqualified(found.term) != unqualified(wanted.term):
+        return [f"contract has `{shown(found.term)}`, where a parameter hides a definition"]
+    origins = zip((whole_name(name, found.imports) for name in definitions(found.term)),
+                  (whole_name(name, wanted.imports) for name in definitions(wanted.term)))
+    return [f"contract has {here}, expected {there} ({named_by})" for here, there in origins if here != there]
+
+
+def row_differences(call, wanted):
+    definition = shown(unqualified(headed(wanted.term)))
+    named = re.findall(r"`([^`]+)`", call.cell)
+    return [] if named[:1] == [definition] else [f"README.md names `{(named or ['nothing'])[0]}` first, expected `{definition}`"]
+
+
+def wanted_of(call, function, stands, replies):
+    """(what the contract has to equate the call with, what says so), where `stands` are the cases that stand for the call."""
+    if call.path in WITHOUT_BUFFER:
+        term, imports = WITHOUT_BUFFER[call.path]
+        return Held("reads", parsed(term), imports), "document 01"
+    if len(stands) != 1:
+        raise Unreadable(f"{len(stands)} cases of demand 2 name it, expected one")
+    return demanded(call, function, stands[0], replies), f"{stands[0].runner}, {stands[0].spec.file}"
+
+
+def call_problems(call, stands, replies):
+    try:
+        function = function_of(call)
+        wanted, named_by = wanted_of(call, function, stands, replies)
+        return row_differences(call, wanted) + differences(contract(function), wanted, named_by)
+    except Unreadable as problem:
+        return [str(problem)]
+
+
+def case_problems(stands, paths):
+    """Cases that stand for no published call, and equations that are for no case."""
+    for case in stands:
+        missing = [path for path in case.calls if path not in paths]
+        if missing or not case.calls:
+            yield f"{case.spec.file}: case `{case.name}` stands for {', '.join(missing) or 'no call'}, expected calls that README.md publishes"
+    for runner, spec in {case.runner: case.spec for case in stands}.items():
+        names = {case.name for case in stands if case.runner == runner}
+        heads = [pattern(left)[0] for left, _ in equations(spec, runner)]
+        yield from (f"{spec.file}: `{runner}` has an equation for `{head}`, expected a case" for head in heads if head not in names)
+
+
+def handing_problems(*specs):
+    """What hands a term's value on, where it is another definition than the one that is relied on."""
+    for left, right in {**WRITES, **LENDS}.items():
+        found = [(sides[0], " ".join(sides[1].split())) for spec in specs for sides in equations(spec, left.split()[0])]
+        if found != [(parsed(left), right)]:
+            yield f"demand_2: `{'`, `'.join(f'{shown(a)} = {b}' for a, b in found)}`, expected `{left} = {right}`"
+
+
+def gathered_problems(stands, additions, members):
+    """Constructors of what is added that no call gives."""
+    given = {gathering(case, path.split("::")[-1]) for case in stands for path in case.calls}
+    for case in additions + members:
+        name = f"Addition.{case.name}" if case in additions else case.name
+        if name not in given:
+            yield f"{case.spec.file}: `{name}` stands for no call, expected one"
+
+
+def all_problems(root, calls):
+    spec, spec_from_c = spec_of(root, CALLS), spec_of(root, CALLS_FROM_C)
+    stands = cases(spec, "Call", "run")
+    stands += [case._replace(calls=[snake(case.name)]) for case in cases(spec_from_c, "CallFromC", "runFromC")]
+    replies = {case.name for case in cases(spec, "Reply")}
+    for call in calls:
+        for told in call_problems(call, [case for case in stands if call.path in case.calls], replies):
+            yield f"{call.path}, {call.file.relative_to(root)}: {told}"
+    paths = [call.path for call in calls]
+    yield from (f"{path}: in README.md {paths.count(path)} times, expected once" for path in sorted(set(paths)) if paths.count(path) > 1)
+    yield from case_problems(stands, paths)
+    yield from handing_problems(spec, spec_from_c)
+    yield from gathered_problems(stands, cases(spec_of(root, ADDITIONS), "Addition"), cases(spec, "Members"))
+    yield from (f"{name}, {file.relative_to(root)}: exported, expected in README.md" for name, file in exported(root).items() if name not in paths)
+
+
+def published(root):
+    readme = read(root / "README.md")
+    return [*calls_from_c(readme, root), *calls_from_rattle(readme, root)]
 
 
 def problems(root):
-    readme = (root / "README.md").read_text()
-    calls = [*of_rattle(readme, root), *of_c(readme, root)]
-    for name, file in calls:
-        text = heading(file.read_text(), name) if file and file.is_file() else None
-        if text is None:
-            yield f"{name}: not found in {file}"
-        elif re.search(r"^\s*requires", text, re.M):
-            yield f"{name}: has a requires, {file}"
-    if len(calls) < 30:
-        yield f"only {len(calls)} calls found in README.md"
-    exported = {name for name, _ in of_c(readme, root)}
-    missing = exported - {name for row in rows(readme, "Calls from C") for name in names(row[0])}
-    yield from (f"{name}: exported, and not in README.md" for name in sorted(missing))
+    """A line for each problem."""
+    found = []
+    try:
+        for problem in all_problems(root, published(root)):
+            found.append(problem)
+    except Unreadable as problem:
+        found.append(str(problem))
+    return found
 
 
-def main():
-    root = pathlib.Path(sys.argv[1] if len(sys.argv) > 1 else ".")
-    found = list(problems(root))
-    print("\n".join(found) if found else "published: no call has a requires")
-    sys.exit(1 if found else 0)
+def main(arguments):
+    root = pathlib.Path(arguments[0] if arguments else ".")
+    found = problems(root)
+    print("\n".join(found) or f"published: {len(published(root))} calls, each an equation with the definition that README and demand 2 name")
+    return 1 if found else 0
 
 
 if __name__ == "__main__":
-    main()
+    sys.exit(main(sys.argv[1:]))

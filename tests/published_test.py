@@ -1,0 +1,506 @@
+#!/usr/bin/env python3
+"""Tests published.py on a small library in a folder of its own: it passes, and each fault that is put into it is told."""
+
+import contextlib
+import io
+import pathlib
+import sys
+import tempfile
+import unittest
+
+sys.dont_write_bytecode = True
+
+import published
+
+README = "README.md"
+CALLS = "crates/demand_2/specs/Calls.antt"
+FROM_C = "crates/demand_2/specs/CallsFromC.antt"
+ADDITIONS = "crates/ultra_format/specs/Additions.antt"
+C = "crates/ultra/src/calls.rt"
+LIB = "crates/making/src/lib.rt"
+ADDS = "crates/making/src/adds.rt"
+MEMBERS = "crates/making/src/members.rt"
+ASKING = "crates/asking/src/lib.rt"
+CURSOR = "crates/asking/src/cursor.rt"
+
+FILES = {
+    README: """# Library
+
+### Calls from C
+
+| Call | Value | Refusals | Definition |
+|---|---|---|---|
+| `ultra_look(buf, index, offset)` | where | 1 | `looked` |
+| `ultra_add_module` | length | 2 | `addedMembers` of `moduleOf` |
+
+### Calls from Rattle
+
+| Call | Source | Its answer is |
+|---|---|---|
+| `making::begin(buf) -> Answer` | making, src/lib.rt | `begun`, with the buffer |
+| `making::add_module`, `add_line` | making, src/adds.rt | `added` of `addModule given` .. |
+| `making::members::add_module`, `add_line` | making, src/members.rt | `addedMembers`: one by one |
+| `Cursor::first() -> Cursor` | asking, src/cursor.rt | `cursorAt`: index 0, offset 8 |
+| `Cursor::step(self, buf) -> Step` | the same | `stepOf` |
+| `asking::copy(buf, out: &mut [u8]) -> Answer` | asking, src/lib.rt | `copiedTo`, with the output |
+| `asking::part(buf, index) -> &[u8]` | the same | the part that `looked` names (`PartOf`) |
+| `asking::size(buf) -> u32` | the same | the length of `listing` |
+
+## More
+""",
+    CALLS: """-- the calls
+use mathlib.Core.Bool.{Bool, true}
+use lib.ListN.{length}
+use Rattle.ultra_format.specs.Contexts.{Body}
+use Rattle.ultra_format.specs.Additions.{Addition, moduleOf, lineOf, lineFormed}
+use Rattle.asking.specs.Asking.{stepOf, copiedTo, looked, listing}
+use Rattle.making.specs.Making.{begun, added, addedMembers}
+
+pub data Members : Type 0 where
+  lineMembers : (text : List ℕ) → Members
+  moduleMembers : (kind : ℕ) (name : List ℕ) → Members
+
+abbrev pub membersFormed : Members → Bool
+membersFormed (lineMembers text) = lineFormed text
+membersFormed (moduleMembers kind name) = true
+
+abbrev pub membersBody : Members → Body
+membersBody (lineMembers text) = lineOf text
+membersBody (moduleMembers kind name) = moduleOf kind name
+
+pub data Call : Type 0 where
+  -- `making::begin`
+  begin : Call
+  -- `making::add_module`, `add_line`
+  add : Addition → Call
+  -- `making::members::add_module`, `add_line`
+  addMembers : Members → Call
+  -- `Cursor::step`
+  step : Cursor → Call
+  -- `asking::copy`
+  copy : List ℕ → Call
+  -- `asking::part`
+  askPart : ℕ → Call
+  -- `asking::size`
+  askSize : Call
+
+pub data Reply : Type 0 where
+  answer : Answer → Reply
+  stepped : Step → Reply
+  lent : Part → List ℕ → Reply
+  -- with the output
+  copied : Answer × List ℕ → Reply
+  number : ℕ → Reply
+
+abbrev pub lentPart : List ℕ → Part → Reply
+lentPart b p = lent p (bytesAt b (p .start) (p .length))
+
+abbrev pub answerAnd : Answer × List ℕ → Reply × List ℕ
+answerAnd r = (answer (r .0), r .1)
+
+unfoldable pub run : Call → List ℕ → Reply × List ℕ
+run begin b = answerAnd (begun b)
+run (add g) b = answerAnd (added b g)
+run (addMembers m) b = answerAnd (addedMembers b (membersFormed m) (membersBody m))
+run (step k) b = (stepped (stepOf b k), b)
+run (copy out) b =
+    (copied (copiedTo b out), b) -- over two lines
+run (askPart i) b = (lentPart b (looked b i .part), b)
+run askSize b = (number (length (listing b)), b)
+""",
+    FROM_C: """-- the calls toward C
+use mathlib.Core.Bool.{true}
+use Rattle.ultra_format.specs.Additions.{moduleOf}
+use Rattle.asking.specs.Asking.{looked, place}
+use Rattle.making.specs.Making.{addedMembers}
+use Rattle.ultra.specs.Crossing.{answerCrossed, crossed}
+
+pub data CallFromC : Type 0 where
+  ultraLook : (index offset : ℕ) → CallFromC
+  ultraAddModule : (kind : ℕ) (name : List ℕ) → CallFromC
+
+abbrev pub numberAnd : ℕ × List ℕ → Reply × List ℕ
+numberAnd r = (number (r .0), r .1)
+
+unfoldable pub runFromC : CallFromC → List ℕ → Reply × List ℕ
+runFromC (ultraLook index offset) b = (number (answerCrossed (looked b (place index offset))), b)
+runFromC (ultraAddModule kind name) b = numberAnd (crossed (addedMembers b true (moduleOf kind name)))
+""",
+    ADDITIONS: """pub data Addition : Type 0 where
+  addModule : ModuleRecord → Addition
+  addLine : List ℕ → Addition
+
+abbrev pub other : ℕ
+""",
+    C: """ghost use mathlib.Core.Path.{_≡_};
+ghost use mathlib.Core.Bool.{true};
+ghost use Rattle.ultra_format.specs.Additions.{moduleOf};
+ghost use Rattle.asking.specs.Asking.{looked, place};
+ghost use Rattle.making.specs.Making.{addedMembers};
+ghost use Rattle.ultra.specs.Crossing.{answerCrossed, crossed};
+
+// fn ultra_look, in a comment
+#[no_mangle]
+pub extern "C" fn ultra_look(buf: &[u8], index: u32, offset: u32) -> u64
+    ensures { λ r. ⌜ r ≡ answerCrossed (looked (now (buf .entry)) (place index offset)) ⌝ }
+{
+    0
+}
+
+#[no_mangle]
+pub extern "C" fn ultra_add_module(
+    buf: &mut [u8],
+    module_kind: u32,
+    name: &[u8],
+) -> u64
+    ensures { λ r. ⌜ (r, now (buf .exit)) ≡ crossed (addedMembers (now (buf .entry)) true (moduleOf «module_kind» (now (name .entry)))) ⌝ }
+{
+    0
+}
+""",
+    LIB: """mod adds;
+pub mod members;
+
+ghost use mathlib.Core.Path.{_≡_};
+ghost use Rattle.making.specs.Making.{begun};
+pub use adds::add_line;
+pub use adds::add_module;
+
+pub fn begin(buf: &mut [u8]) -> Answer
+    ensures { λ r. ⌜ (r, now (buf .exit)) ≡ begun (now (buf .entry)) ⌝ }
+{
+    Answer::Done(8)
+}
+""",
+    ADDS: """ghost use mathlib.Core.Path.{_≡_};
+ghost use Rattle.ultra_format.specs.Additions.{Addition};
+ghost use Rattle.making.specs.Making.{added};
+
+pub fn add_module(buf: &mut [u8], given: ModuleRecord) -> Answer
+    ensures { λ r. ⌜ (r, now (buf .exit)) ≡ added (now (buf .entry)) (Addition.addModule given) ⌝ }
+{
+    Answer::Done(8)
+}
+
+pub fn add_line(buf: &mut [u8], text: &[u8]) -> Answer
+    ensures { λ r. ⌜ (r, now (buf .exit)) ≡ added (now (buf .entry)) (Addition.addLine (now (text .entry))) ⌝ }
+{
+    Answer::Done(8)
+}
+""",
+    MEMBERS: """ghost use mathlib.Core.Path.{_≡_};
+ghost use mathlib.Core.Bool.{true};
+ghost use Rattle.ultra_format.specs.Additions.{moduleOf, lineOf, lineFormed};
+ghost use Rattle.making.specs.Making.{addedMembers};
+
+pub fn add_module(buf: &mut [u8], sort: u32, name: &[u8]) -> Answer
+    ensures { λ r. ⌜ (r, now (buf .exit)) ≡ addedMembers (now (buf .entry)) true (moduleOf sort (now (name .entry))) ⌝ }
+{
+    Answer::Done(8)
+}
+
+pub fn add_line(buf: &mut [u8], text: &[u8]) -> Answer
+    ensures { λ r. ⌜ (r, now (buf .exit)) ≡ addedMembers (now (buf .entry)) (lineFormed (now (text .entry))) (lineOf (now (text .entry))) ⌝ }
+{
+    Answer::Done(8)
+}
+""",
+    ASKING: """mod cursor;
+
+ghost use mathlib.Core.Path.{_≡_};
+ghost use lib.ListN.{length};
+ghost use Rattle.ultra_questions.specs.Parts.{PartOf};
+ghost use Rattle.asking.specs.Asking.{copiedTo, looked, listing};
+pub use cursor::Cursor;
+
+pub fn copy(buf: &[u8], out: &mut [u8]) -> Answer
+    ensures { λ r. ⌜ (r, now (out .exit)) ≡ copiedTo (now (buf .entry)) (now (out .entry)) ⌝ }
+{
+    Answer::Done(0)
+}
+
+pub fn part(buf: &[u8], index: u64) -> &[u8]
+    ensures { λ r. ⌜ PartOf r (buf .entry) (looked (now (buf .entry)) index .part) ⌝ }
+{
+    buf
+}
+
+pub fn size(buf: &[u8]) -> u32
+    ensures { λ r. ⌜ r ≡ length (listing (now (buf .entry))) ⌝ }
+{
+    0
+}
+""",
+    CURSOR: """ghost use mathlib.Core.Path.{_≡_};
+ghost use Rattle.ultra_reading.specs.Stepping.{cursorAt};
+ghost use Rattle.asking.specs.Asking.{stepOf};
+
+impl Cursor {
+    pub fn first() -> Self
+        ensures { λ r. ⌜ r ≡ cursorAt 0 8 ⌝ }
+    {
+        Self
+    }
+
+    pub fn step(self, buf: &[u8]) -> Step
+        ensures { λ r. ⌜ r ≡ stepOf (now (buf .entry)) self ⌝ }
+    {
+        Step::End
+    }
+}
+""",
+}
+
+
+class Case(unittest.TestCase):
+    def setUp(self):
+        folder = tempfile.TemporaryDirectory()
+        self.addCleanup(folder.cleanup)
+        self.root = pathlib.Path(folder.name)
+        self.restore()
+
+    def restore(self):
+        for path, text in FILES.items():
+            place = self.root / path
+            place.parent.mkdir(parents=True, exist_ok=True)
+            place.write_text(text, encoding="utf-8")
+
+    def change(self, path, old, new):
+        text = (self.root / path).read_text(encoding="utf-8")
+        self.assertEqual(text.count(old), 1, old)
+        (self.root / path).write_text(text.replace(old, new), encoding="utf-8")
+
+    def told(self, *expected):
+        """The problems are these, and no others."""
+        self.assertEqual(published.problems(self.root), list(expected))
+        self.restore()
+
+
+class Contracts(Case):
+    def test_a_good_tree(self):
+        self.told()
+
+    def test_requires(self):
+        self.change(ASKING, "    ensures { λ r. ⌜ r ≡ length", "    requires { ⌜ 8 ≤ length (now buf) ⌝ }\n    ensures { λ r. ⌜ r ≡ length")
+        self.told("asking::size, crates/asking/src/lib.rt: has `requires`, `ensures`, expected one `ensures` and no `requires`")
+
+    def test_no_contract(self):
+        self.change(ASKING, "    ensures { λ r. ⌜ r ≡ length (listing (now (buf .entry))) ⌝ }\n", "")
+        self.told("asking::size, crates/asking/src/lib.rt: has no clause, expected one `ensures` and no `requires`")
+
+    def test_two_contracts(self):
+        self.change(CURSOR, "        ensures { λ r. ⌜ r ≡ cursorAt", "        ensures { λ r. ⌜ r ≡ r ⌝ }\n        ensures { λ r. ⌜ r ≡ cursorAt")
+        self.told("Cursor::first, crates/asking/src/cursor.rt: has `ensures`, `ensures`, expected one `ensures` and no `requires`")
+
+    def test_another_definition(self):
+        self.change(CURSOR, "r ≡ stepOf (now", "r ≡ lookOf (now")
+        self.told(f"Cursor::step, {CURSOR}: contract has `lookOf buf self`, expected `stepOf buf self` (run, {CALLS})")
+        self.change(ADDS, "Addition.addLine", "Addition.addModule")
+        self.told(f"making::add_line, {ADDS}: contract has `added buf (addModule text)`, expected `added buf (addLine text)` (run, {CALLS})")
+        self.change(CURSOR, "cursorAt 0 8", "cursorAt 8 8")
+        self.told(f"Cursor::first, {CURSOR}: contract has `cursorAt 8 8`, expected `cursorAt 0 8` (document 01)")
+
+    def test_one_half(self):
+        self.change(LIB, "(r, now (buf .exit)) ≡ begun (now (buf .entry))", "r ≡ begun (now (buf .entry)) .0")
+        self.told(f"making::begin, {LIB}: ensures `r ≡ begun (now (buf .entry)) .0`, expected `(r, now (buf .exit)) ≡ ..`")
+        self.change(ASKING, "(r, now (out .exit)) ≡", "now (out .exit) ≡")
+        self.told(f"asking::copy, {ASKING}: ensures `now (out .exit) ≡ copiedTo (now (buf .entry)) (now (out .entry))`, "
+                  "expected `(r, now (out .exit)) ≡ ..`")
+
+    def test_the_buffer_afterwards(self):
+        self.change(LIB, "begun (now (buf .entry))", "begun (now (buf .exit))")
+        self.told(f"making::begin, {LIB}: contract has `begun (now (buf .exit))`, expected `begun buf` (run, {CALLS})")
+
+    def test_more_than_an_equation(self):
+        for sign in "⊎∨×→≤∗":
+            self.change(CURSOR, "now (buf .entry)) self", f"now (buf .entry)) self {sign} x")
+            self.told(f"Cursor::step, {CURSOR}: `{sign}` in `r ≡ stepOf (now (buf .entry)) self {sign} x`, expected names and parentheses alone")
+        self.change(CURSOR, "buf .entry)) self", "buf .entry)) self ≡ x")
+        self.told(f"Cursor::step, {CURSOR}: ensures `r ≡ stepOf (now (buf .entry)) self ≡ x`, expected `r ≡ ..`")
+        self.change(CURSOR, "buf .entry)) self", "buf .entry) self")
+        self.told(f"Cursor::step, {CURSOR}: parentheses that do not close in `r ≡ stepOf (now (buf .entry) self`")
+        self.change(CURSOR, "self ⌝ }", "self ⌝ ∗ ⌜ r ≡ r ⌝ }")
+        self.told(f"Cursor::step, {CURSOR}: ensures `λ r. ⌜ r ≡ stepOf (now (buf .entry)) self ⌝ ∗ ⌜ r ≡ r ⌝`, expected `λ r. ⌜ .. ⌝`")
+
+    def test_parameters_exchanged(self):
+        self.change(C, "place index offset", "place offset index")
+        self.told(f"ultra_look, {C}: contract has `answerCrossed (looked buf (place offset index))`, "
+                  f"expected `answerCrossed (looked buf (place index offset))` (runFromC, {FROM_C})")
+        self.change(C, "index: u32, offset: u32", "offset: u32, index: u32")
+        self.told(f"ultra_look, {C}: contract has `answerCrossed (looked buf (place index offset))`, "
+                  f"expected `answerCrossed (looked buf (place offset index))` (runFromC, {FROM_C})")
+        self.change(MEMBERS, "moduleOf sort (now (name .entry))", "moduleOf (now (name .entry)) sort")
+        self.told(f"making::members::add_module, {MEMBERS}: contract has `addedMembers buf true (moduleOf name sort)`, "
+                  f"expected `addedMembers buf true (moduleOf sort name)` (run, {CALLS})")
+
+    def test_a_part(self):
+        self.change(ASKING, "index .part)", "index)")
+        self.told(f"asking::part, {ASKING}: contract has `looked buf index`, expected `looked buf index .part` (run, {CALLS})")
+        self.change(ASKING, "PartOf r (buf .entry) (looked (now (buf .entry)) index .part)", "r ≡ looked (now (buf .entry)) index .part")
+        self.told(f"asking::part, {ASKING}: contract of the form `an equation that leaves buf as it is`, "
+                  f"expected `PartOf r (buf .entry) (..)` (run, {CALLS})")
+
+
+class Names(Case):
+    def test_imported_from_elsewhere(self):
+        self.change(LIB, "specs.Making.{begun}", "specs.Weak.{begun}")
+        self.told(f"making::begin, {LIB}: contract has Rattle.making.specs.Weak.begun, expected Rattle.making.specs.Making.begun (run, {CALLS})")
+
+    def test_imported_under_another_name(self):
+        self.change(LIB, "{begun}", "{kept as begun}")
+        self.told(f"making::begin, {LIB}: contract has Rattle.making.specs.Making.kept, expected Rattle.making.specs.Making.begun (run, {CALLS})")
+
+    def test_imported_twice_or_not(self):
+        self.change(LIB, "{begun};", "{begun};\nghost use lib.Weak.{begun};")
+        self.told(f"making::begin, {LIB}: `begun` is imported twice, as Rattle.making.specs.Making.begun and as lib.Weak.begun")
+        self.change(LIB, "{begun}", "{other}")
+        self.told(f"making::begin, {LIB}: `begun` comes from no `use`, expected one")
+
+    def test_another_equality(self):
+        self.change(LIB, "mathlib.Core.Path.{_≡_}", "lib.Weak.{_≡_}")
+        self.told(f"making::begin, {LIB}: ≡ is lib.Weak._≡_, expected mathlib.Core.Path._≡_")
+
+    def test_a_parameter_that_hides(self):
+        self.change(ASKING, "out: &mut [u8]", "copiedTo: &mut [u8]")
+        self.change(ASKING, "(r, now (out .exit))", "(r, now (copiedTo .exit))")
+        self.change(ASKING, "(now (out .entry))", "(now (copiedTo .entry))")
+        self.told(f"asking::copy, {ASKING}: contract has `copiedTo buf copiedTo`, where a parameter hides a definition")
+        self.change(ASKING, "index: u64", "r: u64")
+        self.told(f"asking::part, {ASKING}: parameters buf, r, expected one `&mut` at most, and none named r, now or PartOf")
+        self.change(CURSOR, "self, buf: &[u8]", "self, buffer: &[u8]")
+        self.told(f"Cursor::step, {CURSOR}: parameters self, buffer, expected buf")
+
+    def test_the_heading(self):
+        self.change(ASKING, "out: &mut [u8]", "out: &mut [u8], more: &mut [u8]")
+        self.change(CALLS, "run (copy out) b", "run (copy out more) b")
+        self.told(f"asking::copy, {ASKING}: parameters buf, out, more, expected one `&mut` at most, and none named r, now or PartOf")
+        self.change(ASKING, "index: u64", "(index, more): (u64, u64)")
+        self.told(f"asking::part, {ASKING}: a parameter `buf: &[u8], (index, more): (u64, u64)`, expected a name and a type, or self")
+        self.change(ASKING, "pub fn size(buf: &[u8]) -> u32\n", "pub fn size(buf: &[u8]) -> u32 // long\n")
+        self.told(f"asking::size, {ASKING}: a heading of another form than `fn name(..) -> type ensures {{ .. }}`")
+
+    def test_the_function(self):
+        self.change(CURSOR, "    pub fn step", "    fn step")
+        self.told(f"Cursor::step, {CURSOR}: `fn step`, expected `pub fn step(..)` in a file without block comments")
+        self.change(ASKING, "pub fn size", "pub fn sizes")
+        self.told(f"asking::size, {ASKING}: found 0 times, expected once")
+        self.change(ASKING, "pub fn size", "fn size() {}\n\npub fn size")
+        self.told(f"asking::size, {ASKING}: found 2 times, expected once")
+        self.change(LIB, "pub use adds::add_line;", "pub use others::add_line;")
+        self.told(f"making::add_line, {ADDS}: lib.rt does not pass it on under this path, expected a `pub use` or `pub mod`")
+        self.change(ASKING, "pub use cursor::Cursor;", "pub use others::Cursor;")
+        self.told(*(f"Cursor::{name}, {CURSOR}: lib.rt does not pass it on under this path, expected a `pub use` or `pub mod`"
+                    for name in ("first", "step")))
+
+
+class Demand2(Case):
+    def test_a_case_that_is_not_run(self):
+        self.change(CALLS, "run (step k) b = (stepped (stepOf b k), b)\n", "")
+        self.told(f"Cursor::step, {CURSOR}: `run` of `step`, {CALLS}: 0 equations, expected one, of a call and a buffer")
+
+    def test_an_equation_for_no_case(self):
+        self.change(CALLS, "run askSize b =", "run k b =")
+        self.told(f"asking::size, {ASKING}: `run` of `askSize`, {CALLS}: 0 equations, expected one, of a call and a buffer",
+                  f"{CALLS}: `run` has an equation for `k`, expected a case")
+
+    def test_a_call_that_no_case_names(self):
+        self.change(CALLS, "`making::add_module`, `add_line`", "`making::add_module`")
+        self.told(f"making::add_line, {ADDS}: 0 cases of demand 2 name it, expected one",
+                  f"{ADDITIONS}: `Addition.addLine` stands for no call, expected one")
+
+    def test_a_call_that_two_cases_name(self):
+        self.change(CALLS, "  -- `asking::part`", "  -- `asking::part`, `size`")
+        self.told(f"asking::size, {ASKING}: 2 cases of demand 2 name it, expected one")
+
+    def test_a_case_for_no_published_call(self):
+        self.change(CALLS, "  askSize : Call\n", "  askSize : Call\n  askMore : Call\n")
+        self.told(f"{CALLS}: case `askMore` stands for no call, expected calls that README.md publishes")
+        self.change(README, "| `asking::size(buf) -> u32` | the same | the length of `listing` |\n", "")
+        self.told(f"{CALLS}: case `askSize` stands for asking::size, expected calls that README.md publishes")
+        self.change(FROM_C, "  ultraLook :", "  ultraMore : CallFromC\n  ultraLook :")
+        self.told(f"{FROM_C}: case `ultraMore` stands for ultra_more, expected calls that README.md publishes")
+
+    def test_another_buffer_handed_back(self):
+        self.change(CALLS, "(stepped (stepOf b k), b)", "(stepped (stepOf b k), zeroed b)")
+        self.told(f"Cursor::step, {CURSOR}: `run` of `step`, {CALLS}: the buffer afterwards is `zeroed b`, expected `b`")
+        self.change(CALLS, "(stepped (stepOf b k), b)", "(stepped (stepOf b k), [])")
+        self.told(f"Cursor::step, {CURSOR}: `run` of `step`, {CALLS}: `[` in `(stepped (stepOf b k), [])`, expected names and parentheses alone")
+
+    def test_writing_and_reading(self):
+        self.change(CALLS, "answerAnd (begun b)", "(copied (begun b), b)")
+        self.told(f"making::begin, {LIB}: contract of the form `(r, now (buf .exit)) ≡ ..`, "
+                  f"expected `an equation that leaves buf as it is` (run, {CALLS})")
+        self.change(CALLS, "(copied (copiedTo b out), b)", "answerAnd (copiedTo b out)")
+        self.told(f"asking::copy, {ASKING}: contract of the form `an equation that leaves buf as it is`, "
+                  f"expected `(r, now (buf .exit)) ≡ ..` (run, {CALLS})")
+
+    def test_what_hands_on(self):
+        self.change(CALLS, "(stepped (stepOf", "(constant (stepOf")
+        self.told(f"Cursor::step, {CURSOR}: `run` of `step`, {CALLS}: the reply `constant (stepOf b k)`, "
+                  "expected a case of Reply or `lentPart b`, with one term")
+        self.change(CALLS, "(answer (r .0), r .1)", "(answer (r .0), [])")
+        self.told("demand_2: `answerAnd r = (answer (r .0), [])`, expected `answerAnd r = (answer (r .0), r .1)`")
+
+    def test_what_cannot_be_read(self):
+        self.change(CALLS, "run askSize b = (number (length (listing b)), b)", "run askSize b = length (listing b)")
+        self.told(f"asking::size, {ASKING}: `run` of `askSize`, {CALLS}: `length (listing b)`, "
+                  "expected `answerAnd (..)`, `numberAnd (..)` or `(.. (..), b)`")
+        self.change(CALLS, "(number (length (listing b)), b)", "(number (length (listing b)), b, b)")
+        self.told(f"asking::size, {ASKING}: `run` of `askSize`, {CALLS}: `number (length (listing b)), b, b`, "
+                  "expected `answerAnd (..)`, `numberAnd (..)` or `(.. (..), b)`")
+        self.change(CALLS, "membersFormed (lineMembers text) = lineFormed text", "membersFormed (lineMembers text)")
+        broken = f"{CALLS}: `membersFormed (lineMembers text)`, expected an equation"
+        self.told(*(f"making::members::{name}, {MEMBERS}: {broken}" for name in ("add_module", "add_line")))
+        (self.root / ADDITIONS).unlink()
+        self.told(f"{ADDITIONS}: no cases of data Addition")
+
+    def test_members(self):
+        self.change(CALLS, "= moduleOf kind name", "= moduleOf name kind")
+        self.told(f"making::members::add_module, {MEMBERS}: contract has `addedMembers buf true (moduleOf sort name)`, "
+                  f"expected `addedMembers buf true (moduleOf name sort)` (run, {CALLS})")
+        self.change(CALLS, "membersFormed (moduleMembers kind name) = true\n", "")
+        self.told(f"making::members::add_module, {MEMBERS}: no equation of `membersFormed` for `moduleMembers sort name`, {CALLS}")
+
+    def test_the_number_of_parameters(self):
+        self.change(CURSOR, "self, buf: &[u8]", "self, buf: &[u8], more: u32")
+        self.told(f"Cursor::step, {CURSOR}: 2 parameters beside buf, expected 1 as in `step`, {CALLS}")
+
+
+class Readme(Case):
+    def test_another_definition(self):
+        self.change(README, "| `stepOf` |", "| `lookOf` |")
+        self.told(f"Cursor::step, {CURSOR}: README.md names `lookOf` first, expected `stepOf`")
+        self.change(README, "| 2 | `addedMembers` of `moduleOf` |", "| 2 | `crossed` |")
+        self.told(f"ultra_add_module, {C}: README.md names `crossed` first, expected `addedMembers`")
+        self.change(README, "the length of `listing`", "the length")
+        self.told(f"asking::size, {ASKING}: README.md names `nothing` first, expected `listing`")
+
+    def test_an_exported_function_that_is_not_there(self):
+        self.change(C, "// fn ultra_look, in a comment", '#[no_mangle]\npub extern "C" fn ultra_more() -> u64\n{\n    0\n}\n')
+        self.told(f"ultra_more, {C}: exported, expected in README.md")
+
+    def test_a_call_twice(self):
+        self.change(README, "`making::add_module`, `add_line`", "`making::add_module`, `add_line`, `add_line`")
+        self.told("making::add_line: in README.md 2 times, expected once")
+
+    def test_no_table(self):
+        self.change(README, "### Calls from Rattle", "### Others")
+        self.told("README.md: no table below `Calls from Rattle`, or a row of fewer than 3 cells")
+
+
+class Main(Case):
+    def run_main(self):
+        said = io.StringIO()
+        with contextlib.redirect_stdout(said):
+            status = published.main([str(self.root)])
+        return status, said.getvalue()
+
+    def test_status(self):
+        line = "published: 12 calls, each an equation with the definition that README and demand 2 name\n"
+        self.assertEqual(self.run_main(), (0, line))
+        self.change(CURSOR, "cursorAt 0 8", "cursorAt 1 8")
+        self.assertEqual(self.run_main()[0], 1)
+
+
+if __name__ == "__main__":
+    unittest.main()
