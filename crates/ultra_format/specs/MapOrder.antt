@@ -17,7 +17,7 @@ entryIn es i = getD es i (record { address = 0; size = 0; entryType = 0 })
 abbrev pub InOrder : List Entry → Type 0
 InOrder es = (i : ℕ) → suc i < length es → entryIn es i .address + entryIn es i .size ≤ entryIn es (suc i) .address
 
--- so no entry overlaps a later one, however far behind it
+-- so no entry overlaps a later one, however far after it
 abbrev pub Apart : List Entry → Type 0
 Apart es = (i j : ℕ) → i < j → j < length es → entryIn es i .address + entryIn es i .size ≤ entryIn es j .address
 

@@ -13,3 +13,4 @@ pub mod QuestionRefusals
 pub mod ByIndex
 pub mod MapAsBytes
 pub mod EveryBuffer
+pub mod Witness

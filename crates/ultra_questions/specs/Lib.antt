@@ -10,3 +10,4 @@ pub mod ByIndex
 pub mod QuestionRefusals
 pub mod MapAsBytes
 pub mod EveryBuffer
+pub mod Witness
