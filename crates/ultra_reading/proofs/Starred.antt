@@ -10,7 +10,7 @@ use Rattle.ultra_format.specs.Plain.{writtenSize}
 use Rattle.ultra_format.specs.Decoding.{entriesAt, decoded, start, typesBefore}
 use Rattle.ultra_format.specs.Examples.{listedBytes, everyTypeBytes}
 use Rattle.ultra_reading.specs.Reading.{headFault, boundsFault, attributeFault, attributesAnswer, usedLength, readingOf}
-use Rattle.ultra_reading.specs.Cases.{AllHold, cases}
+use Rattle.ultra_reading.specs.Cases.{AllHold, cases, otherSides}
 use Rattle.ultra_reading.specs.declared.Reading.the-variants.{Accepted}
 
 pub starred : AllHold cases
@@ -19,6 +19,10 @@ starred = (
   λ p q r s t u v. (refl, refl),
   ((refl, refl), ((refl, refl), ((refl, refl), ((refl, refl), ((refl, refl), ((refl, refl), ((refl, refl), ((refl, refl), ((refl, refl), (λ t e. rw e, (λ t e. rw e, (λ t e. rw e, tt)))))))))))),
 )
+
+pub other-sides : AllHold otherSides
+unfolding numberAt placed occurs placeFault start typesBefore headFault boundsFault attributeFault attributesAnswer usedLength readingOf
+other-sides = ((refl, refl), ((refl, refl), ((refl, refl), ((refl, refl), ((refl, refl), ((refl, refl), ((refl, refl), ((refl, refl), tt))))))))
 
 -- the context of document 01's listing is accepted, with version 1.0 and used length 480
 pub listed-accepted : readingOf listedBytes ≡ Accepted (record { major = 1; minor = 0 }) 480

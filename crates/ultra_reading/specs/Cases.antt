@@ -1,4 +1,5 @@
--- Document 01, "Cases on both sides": the cases marked *, as one list. The theorem is proofs/Starred.antt.
+-- Document 01, "Cases on both sides": the cases marked *, as one list, and the other side of their limits. The theorems are `starred` and
+-- `other-sides`, proofs/Starred.antt.
 -- Assumes nothing.
 use Prim.Native.Nat.{ℕ}
 use mathlib.Core.Path.{_≡_}
@@ -59,4 +60,19 @@ cases =
     ∷ writes 0 16
     ∷ writes 7 16
     ∷ writes 8 24
+    ∷ []
+
+-- ---- the other side of those limits, not marked *, with their numbers in digits
+abbrev pub otherSides : List Case
+otherSides =
+    -- one attribute is too few; 1,024 are not too many, and major 255 is a version, so that the first header is missed
+    refuses (1 ∷ 0 ∷ 0 ∷ 0 ∷ 1 ∷ 0 ∷ 0 ∷ 0 ∷ []) 4 0
+    ∷ refuses (1 ∷ 0 ∷ 0 ∷ 0 ∷ 0 ∷ 4 ∷ 0 ∷ 0 ∷ []) 5 8
+    ∷ refuses (255 ∷ 0 ∷ 0 ∷ 0 ∷ 2 ∷ 0 ∷ 0 ∷ 0 ∷ []) 5 8
+    -- seven bytes of room for a header; sizes 0 and 4; an end just past the room, and one at the room, so that the type is asked
+    ∷ refuses (head ++ replicate 7 7) 5 8
+    ∷ refuses (headWith 7 0) 6 8
+    ∷ refuses (headWith 7 4) 6 8
+    ∷ refuses (headWith 7 16) 7 8
+    ∷ refuses (headWith 7 8) 9 8
     ∷ []
