@@ -4,14 +4,14 @@ use Prim.Native.Nat.{ℕ, zero, suc, _+_, _-_, _*_, _/_, _%_, _^_, _≤_, _<_}
 use Prim.Native.Char.{code}
 use mathlib.Core.Path.{_≡_, refl, sym, ap, _∙_}
 use mathlib.Core.Bool.{Bool, true, false, _||_}
-use mathlib.Core.List.{List, [], _∷_, _++_, append-assoc}
+use mathlib.Core.List.{List, [], _∷_, _++_, append-assoc, append-nil}
 use native.Mathlib.Omega.{arith}
 use native.Mathlib.Nat.{div-lt-iff-lt-mul, pow-suc}
 use lib.Dec.{leb, ltb, eqb}
 use borrow.Author.Tests.{ltb-true, ltb-false, lt-ltb, le-ltb, leb-false, eqb-false, eq-eqb, ne-eqb}
-use Rattle.key_value_text.specs.Lines.{Value, Value.numbers, Value.text, Value.hex, Value.absent, Line, keyBytes, valueBytes, lineBytes}
-use Rattle.key_value_text.specs.Spelling.{pick, each, digits, decimal, behind, joined, hexDigit, hexPair, isEscaped, spelled}
-use Rattle.key_value_text.specs.ReadingBack.{shifted, numberFrom, numberIn, numbersFrom, numbersIn, hexValue, bytesIn, Place.atByte, Place.atFirst, Place.atSecond, textFrom, textIn, before, cut, All, Short, Byte, Differs, Separated, ReadsBack, largest, ReadsBackWidest}
+use Rattle.key_value_text.specs.Lines.{Value, Value.numbers, Value.text, Value.hex, Value.absent, Line, line, keyBytes, valueBytes, lineBytes}
+use Rattle.key_value_text.specs.Spelling.{ascii, pick, each, digits, decimal, behind, joined, hexDigit, hexPair, isEscaped, spelled}
+use Rattle.key_value_text.specs.ReadingBack.{shifted, numberFrom, numberIn, numbersFrom, numbersIn, hexValue, bytesIn, Place.atByte, Place.atFirst, Place.atSecond, textFrom, textIn, before, cut, All, Short, Byte, Differs, Separated, ReadsBack, largest, EndsAtNewline, ReadsBackWidest}
 use Rattle.key_value_text.proofs.Digits.{one-digit, more-digits, escaped-byte, plain-byte}
 
 -- ---- lists of which all elements meet a condition
@@ -179,5 +179,12 @@ reads-back-widest =
       dots = reads-back .numbers (code ".") 255 (255 ∷ []) (omega arith) (omega arith) (omega arith, tt);
       hex = reads-back .hex (0 ∷ 255 ∷ []) (omega arith, (omega arith, tt));
       text = reads-back .text (0 ∷ 37 ∷ 61 ∷ 127 ∷ 255 ∷ []) (omega arith, (omega arith, (omega arith, (omega arith, (omega arith, tt)))));
-      value = reads-back .value (numbers (code ",") (largest ∷ [])) [] (omega arith, λ e. omega arith);
+      key = λ v. rw append-nil at (reads-back .key (line (ascii "half") v) [] (four-letters));
+      values = λ t l n m. (ends absent tt, ends (text t) tt, ends (hex l) tt, ends (numbers (code ",") (n ∷ m ∷ [])) (omega arith, λ e. omega arith), ends (numbers (code ".") (n ∷ m ∷ [])) (omega arith, λ e. omega arith));
     }
+  where
+    ends : (v : Value) → Separated v → EndsAtNewline v
+    ends v s = reads-back .value v [] s
+
+    four-letters : All (Differs (code "=")) (ascii "half")
+    four-letters = (λ e. omega arith, (λ e. omega arith, (λ e. omega arith, (λ e. omega arith, tt))))

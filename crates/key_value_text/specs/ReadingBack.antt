@@ -6,8 +6,8 @@ use Prim.Native.Char.{code}
 use mathlib.Core.Path.{_≡_}
 use mathlib.Core.List.{List, [], _∷_, _++_}
 use lib.Dec.{ltb, eqb}
-use Rattle.key_value_text.specs.Spelling.{pick, each, decimal, joined, hexPair, spelled}
-use Rattle.key_value_text.specs.Lines.{Value, Value.numbers, Value.text, Value.hex, Value.absent, Line, valueBytes, lineBytes}
+use Rattle.key_value_text.specs.Spelling.{ascii, pick, each, decimal, joined, hexPair, spelled}
+use Rattle.key_value_text.specs.Lines.{Value, Value.numbers, Value.text, Value.hex, Value.absent, Line, line, valueBytes, lineBytes}
 
 -- ---- what bytes say
 -- n with one digit more behind it
@@ -96,10 +96,21 @@ pub record ReadsBack : Type 0 where
 abbrev pub largest : ℕ
 largest = 18446744073709551615
 
+-- a value ends with the first newline
+abbrev pub EndsAtNewline : Value → Type 0
+EndsAtNewline v = cut (code "\n") (valueBytes v ++ (code "\n" ∷ [])) ≡ (valueBytes v, [])
+
+-- of each form, and numbers with either separator
+abbrev pub EveryFormEnds : Type 0
+EveryFormEnds =
+    (t l : List ℕ) (n m : ℕ)
+    → EndsAtNewline absent × EndsAtNewline (text t) × EndsAtNewline (hex l) × EndsAtNewline (numbers (code ",") (n ∷ m ∷ [])) × EndsAtNewline (numbers (code ".") (n ∷ m ∷ []))
+
 pub record ReadsBackWidest : Type 0 where
   pub number : numberIn (decimal largest) ≡ largest
   pub commas : numbersIn (code ",") (joined (code ",") (largest ∷ 0 ∷ largest ∷ [])) ≡ largest ∷ 0 ∷ largest ∷ []
   pub dots : numbersIn (code ".") (joined (code ".") (255 ∷ 255 ∷ [])) ≡ 255 ∷ 255 ∷ []
   pub hex : bytesIn (each hexPair (0 ∷ 255 ∷ [])) ≡ 0 ∷ 255 ∷ []
   pub text : textIn (each spelled (0 ∷ 37 ∷ 61 ∷ 127 ∷ 255 ∷ [])) ≡ 0 ∷ 37 ∷ 61 ∷ 127 ∷ 255 ∷ []
-  pub value : cut (code "\n") (valueBytes (numbers (code ",") (largest ∷ [])) ++ (code "\n" ∷ [])) ≡ (valueBytes (numbers (code ",") (largest ∷ [])), [])
+  pub key : (v : Value) → cut (code "=") (lineBytes (line (ascii "half") v)) ≡ (ascii "half", valueBytes v ++ (code "\n" ∷ []))
+  pub values : EveryFormEnds

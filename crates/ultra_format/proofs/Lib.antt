@@ -8,3 +8,4 @@ pub mod Given
 pub mod Witness
 pub mod Numbers
 pub mod MemberCases
+pub mod MemberRules

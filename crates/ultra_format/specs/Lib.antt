@@ -12,3 +12,4 @@ pub mod Records
 pub mod Examples
 pub mod Additions
 pub mod MemberCases
+pub mod MemberRules

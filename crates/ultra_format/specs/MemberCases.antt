@@ -122,10 +122,12 @@ sizeCases =
     ∷ bodyFault 88 (latePlatform there there absent there) gives 12
     ∷ bodyFault 88 (latePlatform there there there absent) gives 12
     ∷ bodyFault 96 (latePlatform there there there there) gives 0
+    ∷ bodyFault 65528 (latePlatform there there there there) gives 0
     -- kernel "at least 336"
     ∷ bodyFault 335 (kernelAcross 0 0 0) gives 12
     ∷ bodyFault 336 (kernelAcross 0 0 0) gives 0
     ∷ bodyFault 344 (kernelAcross 0 0 0) gives 0
+    ∷ bodyFault 65528 (kernelAcross 0 0 0) gives 0
     -- map "8 + 24n, n from 0"
     ∷ bodyFault 8 (memoryMap []) gives 0
     ∷ bodyFault 16 (memoryMap []) gives 12
@@ -140,18 +142,20 @@ sizeCases =
     ∷ bodyFault 95 (moduleOf 1 [] 0 0) gives 12
     ∷ bodyFault 96 (moduleOf 1 [] 0 0) gives 0
     ∷ bodyFault 104 (moduleOf 1 [] 0 0) gives 0
+    ∷ bodyFault 65528 (moduleOf 1 [] 0 0) gives 0
     -- command line "at least 16"
     ∷ bodyFault 8 (commandLine []) gives 12
     ∷ bodyFault 15 (commandLine []) gives 12
     ∷ bodyFault 16 (commandLine []) gives 0
-    ∷ bodyFault 4096 (commandLine []) gives 0
+    ∷ bodyFault 65528 (commandLine []) gives 0
     -- framebuffer "at least 32"
     ∷ bodyFault 31 (pixels 3 32) gives 12
     ∷ bodyFault 32 (pixels 3 32) gives 0
     ∷ bodyFault 40 (pixels 3 32) gives 0
+    ∷ bodyFault 65528 (pixels 3 32) gives 0
     -- types from 7 up have no row
     ∷ bodyFault 8 (other 7) gives 0
-    ∷ bodyFault 16 (other 4294967295) gives 0
+    ∷ bodyFault 65528 (other 4294967295) gives 0
     ∷ []
 
 -- ---- "values"
@@ -173,6 +177,8 @@ valueCases =
     ∷ bodyFault 96 (moduleOf 1 [] 0 0) gives 0
     ∷ bodyFault 96 (moduleOf 2 [] 0 0) gives 0
     ∷ bodyFault 96 (moduleOf 3 [] 0 0) gives 13
+    ∷ bodyFault 96 (moduleOf 257 [] 0 0) gives 13
+    ∷ bodyFault 96 (moduleOf 65537 [] 0 0) gives 13
     -- "framebuffer format 1 to 4, bpp 24 for formats 1 and 2 and 32 for 3 and 4"
     ∷ bodyFault 32 (pixels 0 24) gives 13
     ∷ bodyFault 32 (pixels 0 32) gives 13
@@ -189,6 +195,9 @@ valueCases =
     ∷ bodyFault 32 (pixels 1 23) gives 13
     ∷ bodyFault 32 (pixels 1 25) gives 13
     ∷ bodyFault 32 (pixels 3 31) gives 13
+    ∷ bodyFault 32 (framebufferOf 1 1 8 33 3 0) gives 13
+    ∷ bodyFault 32 (framebufferOf 1 1 8192 280 1 0) gives 13
+    ∷ bodyFault 32 (framebufferOf 1 1 4 24 257 0) gives 13
     -- "pitch × 8 at least width × bpp": width, height, pitch, bpp, format, address
     ∷ bodyFault 32 (framebufferOf 3 1 8 24 1 0) gives 13
     ∷ bodyFault 32 (framebufferOf 3 1 9 24 1 0) gives 0
@@ -197,15 +206,24 @@ valueCases =
     ∷ bodyFault 32 (framebufferOf 134217728 1 0 32 3 0) gives 13
     ∷ bodyFault 32 (framebufferOf 0 1 0 32 3 0) gives 0
     ∷ bodyFault 32 (framebufferOf 0 0 0 32 3 0) gives 0
+    ∷ bodyFault 32 (framebufferOf 1 1 536870912 32 3 0) gives 0
     -- "kernel bases, kernel size and module address multiples of 4,096"
     ∷ bodyFault 336 (kernelAcross 2048 0 0) gives 13
     ∷ bodyFault 336 (kernelAcross 4096 0 0) gives 0
+    ∷ bodyFault 336 (kernelAcross 4095 0 0) gives 13
+    ∷ bodyFault 336 (kernelAcross 4097 0 0) gives 13
     ∷ bodyFault 336 (kernelAcross 0 2048 0) gives 13
     ∷ bodyFault 336 (kernelAcross 0 4096 0) gives 0
+    ∷ bodyFault 336 (kernelAcross 0 4095 0) gives 13
+    ∷ bodyFault 336 (kernelAcross 0 4097 0) gives 13
     ∷ bodyFault 336 (kernelAcross 0 0 2048) gives 13
     ∷ bodyFault 336 (kernelAcross 0 0 4096) gives 0
+    ∷ bodyFault 336 (kernelAcross 0 0 4095) gives 13
+    ∷ bodyFault 336 (kernelAcross 0 0 4097) gives 13
     ∷ bodyFault 96 (moduleOf 1 [] 2048 0) gives 13
     ∷ bodyFault 96 (moduleOf 1 [] 4096 0) gives 0
+    ∷ bodyFault 96 (moduleOf 1 [] 4095 0) gives 13
+    ∷ bodyFault 96 (moduleOf 1 [] 4097 0) gives 13
     ∷ []
 
 -- ---- "texts"
@@ -232,6 +250,7 @@ textCases =
     ∷ bodyFault 16 (commandLine (0 ∷ [])) gives 14
     ∷ bodyFault 16 (commandLine (1 ∷ 127 ∷ [])) gives 0
     ∷ bodyFault 16 (commandLine (1 ∷ 128 ∷ [])) gives 14
+    ∷ bodyFault 16 (commandLine (2 ∷ 9 ∷ 31 ∷ 32 ∷ [])) gives 0
     -- "except in the path, which begins with `/` and is otherwise free"
     ∷ bodyFault 336 (kernelFrom []) gives 14
     ∷ bodyFault 336 (kernelFrom (47 ∷ [])) gives 0
@@ -381,6 +400,8 @@ givenCases =
     -- "12 for a map not of 24n bytes or a GUID not of 16"
     ∷ mapFault [] gives 0
     ∷ mapFault (zeros 8) gives 12
+    ∷ mapFault (zeros 12) gives 12
+    ∷ mapFault (zeros 16) gives 12
     ∷ mapFault mostOfEntry gives 12
     ∷ mapFault (mostOfEntry ++ zeros 1) gives 0
     ∷ mapFault (mostOfEntry ++ zeros 2) gives 12
