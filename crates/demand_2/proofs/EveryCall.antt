@@ -3,29 +3,29 @@
 use Prim.Native.Nat.{ℕ, zero, suc, _+_, _%_, _<_, _≤_}
 use mathlib.Core.Path.{_≡_, refl, sym, ap, ap₂, _∙_, subst}
 use mathlib.Core.Bool.{Bool, true, false}
-use mathlib.Core.Logic.{_⊎_.inl, _⊎_.inr}
+use mathlib.Core.Logic.{_⊎_, _⊎_.inl, _⊎_.inr, ⊎-elim}
 use mathlib.Core.List.{List, [], _∷_, _++_}
 use native.Mathlib.Omega.{arith}
 use lib.ListN.{length, getD, take}
-use lib.Seq.{take-all}
+use lib.Seq.{take-all, getD-take}
 use lib.Dec.{ltb}
 use borrow.Author.Tests.{ltb-true}
 use Rattle.byte_layout.specs.Fields.{cells, filled}
 use Rattle.byte_layout.specs.Stored.{Bytes}
-use Rattle.ultra_format.specs.Contexts.{Context, count, total, used}
-use Rattle.ultra_format.specs.Layouts.{entriesFields, attributesFields, roomOf, written}
+use Rattle.ultra_format.specs.Contexts.{typeOf, Attribute, Context, count, attributeAt, total, used}
+use Rattle.ultra_format.specs.Layouts.{entriesFields, attributesFields, layout, roomOf, written}
 use Rattle.ultra_format.specs.Decoding.{start, typesBefore, contextOf}
 use Rattle.words.specs.Words.{numberAt, numbersAt}
 use Rattle.ultra_format.specs.Members.{every, sizeSuits, kernelValues, moduleValues, bppSuits, framebufferValues, values, asciiText, pathText, texts, ranges, entriesOrdered, ordered, bodyFault}
 use Rattle.ultra_format.specs.Places.{placed, occurs, placeFault}
-use Rattle.ultra_format.specs.Plain.{writtenSize}
+use Rattle.ultra_format.specs.Plain.{writtenSize, Plain}
 use Rattle.ultra_format.specs.Records.{trimmed}
 use Rattle.ultra_questions.specs.MapQuestion.{numbers}
 use Rattle.ultra_format.specs.Examples.{zeros, sixTypes, sixTypesBytes}
-use Rattle.ultra_format.specs.Additions.{Addition, Addition.addPlatform, entriesGiven, bodyGiven, givenFault}
+use Rattle.ultra_format.specs.Additions.{Addition, Addition.addPlatform, Addition.addMap, Addition.addCommandLine, attributeGiven, entriesGiven, bodyGiven, givenFault}
 use Rattle.ultra_format.proofs.Chains.{both-hold}
 use Rattle.ultra_format.proofs.Decoded.{decoded-only}
-use Rattle.ultra_format.proofs.Witness.{six-types-written}
+use Rattle.ultra_format.proofs.Witness.{six-types-written, silent-zero}
 use Rattle.ultra_reading.specs.Reading.{headFault, boundsFault, attributesAnswer, usedLength}
 use Rattle.ultra_reading.specs.Stepping.{cursorAt}
 use Rattle.ultra_reading.specs.declared.cursor.Cursor.{Cursor}
@@ -36,12 +36,15 @@ use Rattle.ultra_format.specs.declared.Answer.the-variants.{Done}
 use Rattle.demand_3.specs.Witness.{everyPlatformRecord, everyKernelRecord, everyEntries, everyLine}
 use Rattle.ultra_acceptance.specs.Steps.{StepsThrough}
 use Rattle.demand_2.specs.Calls.{Call.add, Call.read, Call.step, Reply.number}
-use Rattle.demand_2.specs.CallsFromC.{CallFromC, CallFromC.ultraRead, CallFromC.ultraStep, AnyCall, AnyCall.fromRattle, AnyCall.fromC, inRattle, runAny, after}
+use Rattle.demand_2.specs.CallsFromC.{CallFromC, CallFromC.ultraRead, CallFromC.ultraStep, CallFromC.ultraAddMap, AnyCall, AnyCall.fromRattle, AnyCall.fromC, inRattle, runAny, after}
 use Rattle.demand_2.specs.Arguments.{AdditionTyped, Among, AllTyped}
 use Rattle.demand_2.specs.Model.{attributesGiven, contextGiven, typesBehind, giving, listAfterAll, replyTo, anyReply}
 use Rattle.demand_2.specs.Demand2.{Undetermined, ReadsBack, Appended, adds, bufferNow, listNow}
-use Rattle.demand_2.specs.Witness.{sixAdditions, everyCall, ones, widestCalls, Built, EveryKind, two, TwoAreEnough, otherHead}
-use Rattle.demand_2.proofs.Arguments.{EachTyped, each-typed, typed-none}
+use Rattle.demand_2.specs.Witness.{sixAdditions, everyCall, ones, absentPlatform, widestCalls, Built, EveryKind, AnyArguments, two, TwoAreEnough, otherHead}
+use Rattle.demand_2.proofs.Arguments.{EachTyped, each-typed, typed-none, typed-first, typed-rest, typed-more}
+use Rattle.demand_2.proofs.Additions.{given-type}
+use Rattle.demand_2.proofs.Following.{length-given}
+use Rattle.demand_2.proofs.ReadingBack.{at-given}
 use Rattle.demand_2.proofs.Demand2.{demand-2}
 
 -- ---- arguments of their types
@@ -117,9 +120,9 @@ no-step room u = let e = u .1 in let z : _≡_ {A = ℕ} 0 1 = cc in omega arith
 abbrev Replied : ℕ → CallFromC → ℕ → Type 0
 Replied room k n = anyReply room (fromC k) sixAdditions ≡ number n
 
-replied : Replied 640 ultraRead 640 × Replied 640 (ultraStep 5 608) 640 × Replied 65536 (ultraStep 6 640) 0 × Replied 640 (ultraStep 0 640) 21474837120 × Replied 65536 (ultraStep 0 644) 21474837124
+replied : Replied 640 ultraRead 640 × Replied 640 (ultraStep 0 16) 25769803792 × Replied 640 (ultraStep 5 608) 640 × Replied 65536 (ultraStep 6 640) 0 × Replied 640 (ultraStep 0 640) 21474837120 × Replied 65536 (ultraStep 0 644) 21474837124
 unfolding replyTo attributesGiven bodyGiven entriesGiven trimmed writtenSize total cells filled entriesFields attributesFields boundsFault numberAt
-replied = (refl, refl, refl, refl, refl)
+replied = (refl, refl, refl, refl, refl, refl)
 
 pub every-kind : Built sixAdditions sixTypes sixTypesBytes 640 → EveryKind
 every-kind w =
@@ -130,10 +133,11 @@ every-kind w =
           sym (take-all 640 (bufferNow b everyCall) (omega arith)) ∙ front (w .typed) (w .list) b 640 (omega arith) (every-list .0) (omega arith);
       long = λ b e. front (w .typed) (w .list) b 65536 (omega arith) (every-list .1) (omega arith);
       read = λ b e. least b e (fromC ultraRead) (no-step 640) ∙ replied .0;
-      last = λ b e. least b e (fromC (ultraStep 5 608)) (determined 640 5 608 (λ h i j k. omega arith)) ∙ replied .1;
-      end = λ b e. greatest b e (fromC (ultraStep 6 640)) (determined 65536 6 640 (λ h i j k. omega arith)) ∙ replied .2;
-      pastRoom = λ b e. least b e (fromC (ultraStep 0 640)) (determined 640 0 640 (λ h i j k. omega arith)) ∙ replied .3;
-      crooked = λ b e. greatest b e (fromC (ultraStep 0 644)) (determined 65536 0 644 (λ h i j k. omega arith)) ∙ replied .4;
+      last = λ b e. least b e (fromC (ultraStep 5 608)) (determined 640 5 608 (λ h i j k. omega arith)) ∙ replied .2;
+      inside = λ b e. least b e (fromC (ultraStep 0 16)) (determined 640 0 16 (λ h i j k. omega arith)) ∙ replied .1;
+      end = λ b e. greatest b e (fromC (ultraStep 6 640)) (determined 65536 6 640 (λ h i j k. omega arith)) ∙ replied .3;
+      pastRoom = λ b e. least b e (fromC (ultraStep 0 640)) (determined 640 0 640 (λ h i j k. omega arith)) ∙ replied .4;
+      crooked = λ b e. greatest b e (fromC (ultraStep 0 644)) (determined 65536 0 644 (λ h i j k. omega arith)) ∙ replied .5;
     }
   where
     least : (b : List ℕ) → length b ≡ 640 → (k : AnyCall) → (Undetermined 640 (contextGiven sixAdditions) (inRattle k) → ⊥) → runAny k (bufferNow b everyCall) .0 ≡ anyReply 640 k sixAdditions
@@ -201,3 +205,44 @@ other-answered = refl
 pub other : AllTyped (adds sixAdditions) → Appended otherHead (contextOf otherHead) anyPlatform (added otherHead anyPlatform .1) 96
 unfolding adds Among
 other w = demand-2 .appends otherHead (contextOf otherHead) anyPlatform 96 other-held (here w anyPlatform (inl refl)) other-answered
+
+pub other-kept : AllTyped (adds sixAdditions) → (i : ℕ) → (i < 4) ⊎ (96 ≤ i) → getD (added otherHead anyPlatform .1) i 0 ≡ getD otherHead i 0
+other-kept w i h = other w .others i (⊎-elim inl (λ l. inr (inr l)) h)
+
+-- ---- arguments of any length
+joined : (ks js : List AnyCall) → AllTyped ks → AllTyped js → AllTyped (ks ++ js)
+joined [] js y z = z
+joined (k ∷ ks) js y z = typed-more k (ks ++ js) (typed-first k ks y) (joined ks js (typed-rest k ks y) z)
+
+pub any-arguments : AnyArguments
+unfolding EachTyped every
+any-arguments =
+    record {
+      lines = λ t y. each-typed (fromRattle (add (addCommandLine t)) ∷ fromC (ultraAddMap t) ∷ []) (y, (y, tt));
+      noMap = each-typed (fromRattle (add (addMap [])) ∷ []) (tt, tt);
+      noMembers = each-typed (fromRattle (add (addPlatform absentPlatform)) ∷ [])
+          (record { kind = omega arith; loaderMajor = omega arith; loaderMinor = omega arith; name = (refl, some-bytes (zeros 32) refl); rsdp = omega arith; higherHalfBase = tt; depth = tt; dtb = tt; smbios = tt }, tt);
+      joined = joined;
+      reading = λ k p q. typed-more k [] (record { records = λ g e. absurd (p g e); members = λ m e. absurd (q m e) }) typed-none;
+    }
+
+-- ---- what was built is plain
+module _ (b : List ℕ) (ks : List AnyCall) (e : begun b .0 ≡ Done 8) (y : AllTyped ks) where
+  abbrev built : Context
+  built = contextGiven (listNow b ks)
+
+  given : (i : ℕ) → i < count built → attributeAt built i ≡ attributeGiven (getD (listNow b ks) i (addCommandLine []))
+  given i h = at-given (listNow b ks) i (omega (arith, length-given (listNow b ks)))
+
+  pub built-plain : Plain (bufferNow b ks) built
+  built-plain =
+      record {
+        major = refl;
+        minor = refl;
+        sizes = λ i h. ap (λ (a : Attribute). a .size) (given i h) ∙ ap (λ (a : Attribute). writtenSize (a .body)) (sym (given i h));
+        zeros = λ i h s.
+            sym (getD-take (used built) (bufferNow b ks) i 0 h)
+            ∙ ap (λ (l : List ℕ). getD l i 0) (demand-2 .follows b ks e y .bytes)
+            ∙ silent-zero (cells (layout built)) i s;
+        types = λ i h. subst (λ (a : Attribute). typeOf (a .body) < 7) (sym (given i h)) (given-type (getD (listNow b ks) i (addCommandLine [])) .2);
+      }

@@ -25,7 +25,7 @@ record-at b c h i k t =
     ∙ record-answered (startIn (c .attributes) i) (sizeAt c i) (bodyAt c i) (h .0 .each i k .typeSuits) t (body-fits (h .0) i k)
 
 -- ---- that of additions
-at-given : (gs : List Addition) (i : ℕ) → i < length gs → attributeAt (contextGiven gs) i ≡ attributeGiven (getD gs i (addCommandLine []))
+pub at-given : (gs : List Addition) (i : ℕ) → i < length gs → attributeAt (contextGiven gs) i ≡ attributeGiven (getD gs i (addCommandLine []))
 unfolding attributesGiven
 at-given [] i h = absurd (not-suc-le-zero h)
 at-given (g ∷ gs) zero h = refl

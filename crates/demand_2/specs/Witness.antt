@@ -4,11 +4,12 @@
 -- second beginning among them, build the same 640 bytes; the widest arguments are of their types; two attributes are enough; a context
 -- that another writer began is extended. Each is proved from the demand itself, in proofs/Witness.antt: `witnessed`.
 -- Assumes nothing.
-use Prim.Native.Nat.{ℕ}
+use Prim.Native.Nat.{ℕ, _≤_, _<_}
+use mathlib.Core.Logic.{_⊎_}
 use mathlib.Core.Bool.{true, false}
 use mathlib.Core.Path.{_≡_}
-use mathlib.Core.List.{List, [], _∷_}
-use lib.ListN.{length, take, replicate}
+use mathlib.Core.List.{List, [], _∷_, _++_}
+use lib.ListN.{length, take, getD, replicate}
 use Rattle.ultra_format.specs.Refusals.{SHORT}
 use Rattle.ultra_format.specs.Answers.{refused}
 use Rattle.ultra_format.specs.Decoding.{contextOf}
@@ -18,6 +19,7 @@ use Rattle.ultra_format.specs.Examples.{zeros, junk, listed, listedBytes, sixTy
 use Rattle.ultra_format.specs.Additions.{Addition}
 use Rattle.ultra_format.specs.Additions.{Addition.addPlatform, Addition.addKernel, Addition.addMap, Addition.addModule, Addition.addCommandLine, Addition.addFramebuffer}
 use Rattle.ultra_format.specs.declared.Answer.the-variants.{Done}
+use Rattle.ultra_format.specs.declared.records.PlatformRecord.{PlatformRecord}
 use Rattle.ultra_format.specs.declared.records.OptionalU64.the-variants as wide
 use Rattle.ultra_format.specs.declared.records.OptionalU8.the-variants as narrow
 use Rattle.ultra_reading.specs.Stepping.{cursorAt}
@@ -25,15 +27,16 @@ use Rattle.ultra_building.specs.Building.{begun, added}
 use Rattle.demand_3.specs.Demand3.{Held}
 use Rattle.demand_3.specs.Witness.{everyPlatformRecord, everyKernelRecord, everyModuleRecord, everyFramebufferRecord, everyEntries, everyLine}
 use Rattle.ultra_acceptance.specs.Steps.{StepsThrough}
+use Rattle.demand_2.specs.Calls.{Members}
 use Rattle.demand_2.specs.Calls.{Members.platformMembers, Members.kernelMembers, Members.mapMembers, Members.moduleMembers, Reply.number}
 use Rattle.demand_2.specs.Calls.{Call.begin, Call.add, Call.addMembers, Call.read, Call.step, Call.askAttribute, Call.askStart, Call.askPart, Call.copyMap, Call.copyMapBytes, Call.askLine, Call.locateLine, Call.askModule, Call.list, Call.askListingLength}
-use Rattle.demand_2.specs.CallsFromC.{AnyCall, runAny, after, replies}
+use Rattle.demand_2.specs.CallsFromC.{AnyCall, inRattle, runAny, after, replies}
 use Rattle.demand_2.specs.CallsFromC.{AnyCall.fromRattle, AnyCall.fromC}
 use Rattle.demand_2.specs.CallsFromC.{CallFromC.ultraRead, CallFromC.ultraStep, CallFromC.ultraAttribute, CallFromC.ultraCopyMap, CallFromC.ultraCommandLine, CallFromC.ultraModuleHolding, CallFromC.ultraBegin}
 use Rattle.demand_2.specs.CallsFromC.{CallFromC.ultraAddPlatform, CallFromC.ultraAddKernel, CallFromC.ultraAddMap, CallFromC.ultraAddModule, CallFromC.ultraAddCommandLine, CallFromC.ultraAddFramebuffer}
 use Rattle.demand_2.specs.Arguments.{AllTyped}
 use Rattle.demand_2.specs.Model.{contextGiven, listAfterAll}
-use Rattle.demand_2.specs.Demand2.{ReadsBack, adds, AllSucceeded, Appended, bufferNow}
+use Rattle.demand_2.specs.Demand2.{ReadsBack, adds, AllSucceeded, Appended, bufferNow, listNow}
 
 -- the records of 01's listing
 abbrev pub listedAdditions : List Addition
@@ -125,6 +128,21 @@ everyCall =
 abbrev pub ones : ℕ → List ℕ
 ones n = replicate n 255
 
+-- no late member
+abbrev pub absentPlatform : PlatformRecord
+absentPlatform =
+    record {
+      kind = 2;
+      «loader_major» = 0;
+      «loader_minor» = 0;
+      name = zeros 32;
+      rsdp = 0;
+      «higher_half_base» = wide.Absent;
+      depth = narrow.Absent;
+      dtb = wide.Absent;
+      smbios = wide.Absent;
+    }
+
 abbrev pub widestCalls : List AnyCall
 widestCalls =
     fromRattle (add (addPlatform (record {
@@ -179,8 +197,20 @@ pub record EveryKind : Type 0 where
   pub read : (b : List ℕ) → length b ≡ 640 → runAny (fromC ultraRead) (bufferNow b everyCall) .0 ≡ number 640
   pub last : (b : List ℕ) → length b ≡ 640 → runAny (fromC (ultraStep 5 608)) (bufferNow b everyCall) .0 ≡ number 640
   pub end : (b : List ℕ) → length b ≡ 65537 → runAny (fromC (ultraStep 6 640)) (bufferNow b everyCall) .0 ≡ number 0
+  -- 6 at 16, within the first attribute
+  pub inside : (b : List ℕ) → length b ≡ 640 → runAny (fromC (ultraStep 0 16)) (bufferNow b everyCall) .0 ≡ number 25769803792
   pub pastRoom : (b : List ℕ) → length b ≡ 640 → runAny (fromC (ultraStep 0 640)) (bufferNow b everyCall) .0 ≡ number 21474837120
   pub crooked : (b : List ℕ) → length b ≡ 65537 → runAny (fromC (ultraStep 0 644)) (bufferNow b everyCall) .0 ≡ number 21474837124
+
+-- ---- arguments, of any length
+-- a line of any bytes, an empty map and a platform without late members are of their types; calls that are, one after the other, are; and
+-- so are calls without an add
+pub record AnyArguments : Type 0 where
+  pub lines : (t : List ℕ) → ((i : ℕ) → getD t i 0 < 256) → AllTyped (fromRattle (add (addCommandLine t)) ∷ fromC (ultraAddMap t) ∷ [])
+  pub noMap : AllTyped (fromRattle (add (addMap [])) ∷ [])
+  pub noMembers : AllTyped (fromRattle (add (addPlatform absentPlatform)) ∷ [])
+  pub joined : (ks js : List AnyCall) → AllTyped ks → AllTyped js → AllTyped (ks ++ js)
+  pub reading : (k : AnyCall) → ((g : Addition) → inRattle k ≡ add g → ⊥) → ((m : Members) → inRattle k ≡ addMembers m → ⊥) → AllTyped (k ∷ [])
 
 -- two attributes
 abbrev pub two : List Addition
@@ -190,9 +220,9 @@ pub record TwoAreEnough : Type 0 where
   pub back : (b : List ℕ) → length b ≡ 432 → ReadsBack (bufferNow b (adds two)) two
   pub through : (b : List ℕ) → length b ≡ 432 → StepsThrough (bufferNow b (adds two)) (contextGiven two)
 
--- a head of version 2.7 that counts nothing, its reserved bytes 165, and 88 bytes of room
+-- a head of version 2.7 that counts nothing, its reserved bytes 165, and 93 bytes after it
 abbrev pub otherHead : List ℕ
-otherHead = 2 ∷ 7 ∷ 165 ∷ 165 ∷ 0 ∷ 0 ∷ 0 ∷ 0 ∷ junk 88
+otherHead = 2 ∷ 7 ∷ 165 ∷ 165 ∷ 0 ∷ 0 ∷ 0 ∷ 0 ∷ junk 93
 
 pub record Witnessed : Type 0 where
   -- "The whole listing of a context with four attributes": used=480
@@ -201,7 +231,12 @@ pub record Witnessed : Type 0 where
   pub six : Built sixAdditions sixTypes sixTypesBytes 640
   pub every : EveryKind
   pub widest : AllTyped widestCalls
+  pub arguments : AnyArguments
   pub enough : TwoAreEnough
+  -- whatever was built is plain
+  pub plain : (b : List ℕ) (ks : List AnyCall) → begun b .0 ≡ Done 8 → AllTyped ks → Plain (bufferNow b ks) (contextGiven (listNow b ks))
   pub head : (b : List ℕ) → length b ≡ 8 → begun b ≡ (Done 8, 1 ∷ zeros 7)
   pub headless : (b : List ℕ) → length b ≡ 7 → begun b ≡ (refused SHORT 0, b)
   pub other : Appended otherHead (contextOf otherHead) (addPlatform (everyPlatformRecord .platform)) (added otherHead (addPlatform (everyPlatformRecord .platform)) .1) 96
+  -- the bytes before the count, and those after the new attribute, stay
+  pub otherKept : (i : ℕ) → (i < 4) ⊎ (96 ≤ i) → getD (added otherHead (addPlatform (everyPlatformRecord .platform)) .1) i 0 ≡ getD otherHead i 0

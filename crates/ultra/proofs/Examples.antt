@@ -3,7 +3,7 @@
 use mathlib.Core.Path.{refl}
 use Rattle.words.specs.Words.{numberAt, numbersAt, numbersBytes}
 use Rattle.byte_layout.specs.Stored.{textAt, bytesAt}
-use Rattle.ultra_format.specs.Members.{every, sizeSuits, values, kernelValues, texts, asciiText, pathText, ranges, ordered, entriesOrdered, bodyFault}
+use Rattle.ultra_format.specs.Members.{every, sizeSuits, values, kernelValues, moduleValues, bppSuits, framebufferValues, texts, asciiText, pathText, ranges, ordered, entriesOrdered, bodyFault}
 use Rattle.ultra_format.specs.Contexts.{total}
 use Rattle.ultra_format.specs.Places.{placed, occurs, placeFault}
 use Rattle.ultra_format.specs.Decoding.{entriesAt, decoded, start, typesBefore, attributesFrom, contextOf}
@@ -14,10 +14,11 @@ use Rattle.ultra_questions.specs.Searching.{first}
 use Rattle.ultra_questions.specs.AttributeQuestion.{attributeStart}
 use Rattle.ultra_questions.specs.CommandLineQuestion.{commandLinePart}
 use Rattle.ultra_questions.specs.MapQuestion.{numbers, mapCopied, mapCopiedBytes}
+use Rattle.ultra_questions.specs.ModuleQuestion.{covers, moduleHolding}
 use Rattle.ultra.specs.Examples.{Examples}
 
 pub examples : Examples
-unfolding numberAt numbersAt numbersBytes textAt bytesAt entriesAt every sizeSuits values kernelValues texts asciiText pathText ranges ordered entriesOrdered bodyFault placed occurs placeFault decoded start typesBefore attributesFrom contextOf total first bodyPart headFault boundsFault attributeFault attributesAnswer usedLength readingOf cursorFault stepOf attributeStart commandLinePart numbers mapCopied mapCopiedBytes
+unfolding numberAt numbersAt numbersBytes textAt bytesAt entriesAt every sizeSuits values kernelValues moduleValues bppSuits framebufferValues texts asciiText pathText ranges ordered entriesOrdered bodyFault placed occurs placeFault decoded start typesBefore attributesFrom contextOf total first bodyPart headFault boundsFault attributeFault attributesAnswer usedLength readingOf cursorFault stepOf attributeStart commandLinePart numbers mapCopied mapCopiedBytes covers moduleHolding
 examples =
     record {
       used = refl;
@@ -29,6 +30,11 @@ examples =
       line = refl;
       copied = refl;
       short = refl;
+      before = refl;
+      held = refl;
+      after = refl;
+      low = refl;
+      noLine = refl;
       map = refl;
       mapLeftOver = refl;
       guids = refl;

@@ -7,13 +7,14 @@ use mathlib.Core.Bool.{true, false}
 use mathlib.Core.List.{List, [], _∷_, _++_}
 use lib.ListN.{replicate}
 use Rattle.ultra_format.specs.Additions.{mapFormed, guidsFormed}
-use Rattle.ultra_format.specs.Examples.{listedBytes}
+use Rattle.ultra_format.specs.Examples.{listedBytes, everyTypeBytes}
 use Rattle.ultra_reading.specs.Cases.{head}
 use Rattle.ultra_reading.specs.Reading.{readingOf}
 use Rattle.ultra_reading.specs.Stepping.{cursorAt, stepOf}
 use Rattle.ultra_questions.specs.AttributeQuestion.{attributeStart}
 use Rattle.ultra_questions.specs.CommandLineQuestion.{commandLinePart}
 use Rattle.ultra_questions.specs.MapQuestion.{mapCopiedBytes}
+use Rattle.ultra_questions.specs.ModuleQuestion.{moduleHolding}
 use Rattle.ultra.specs.Crossing.{answerCrossed, stepCrossed, readingCrossed, partCrossed, crossed}
 
 -- "range=1048576,1048576,1" as three numbers of eight bytes
@@ -37,6 +38,13 @@ pub record Examples : Type 0 where
   pub copied : crossed (mapCopiedBytes listedBytes (replicate 31 165)) ≡ (1, rangeBytes ++ replicate 7 165)
   -- 23 bytes count as two: 18 × 2^32 + 480
   pub short : crossed (mapCopiedBytes listedBytes (replicate 23 165)) ≡ (77309411808, replicate 23 165)
+  -- a module of 4,097 bytes at 2^33 starts at 504, in the context with every type; before and after its bytes is none
+  pub before : answerCrossed (moduleHolding everyTypeBytes 8589934591) ≡ 0
+  pub held : answerCrossed (moduleHolding everyTypeBytes 8589934592) ≡ 504
+  pub after : answerCrossed (moduleHolding everyTypeBytes 8589938689) ≡ 0
+  -- a step at offset 0: 5 × 2^32; a refused buffer has no line
+  pub low : stepCrossed (stepOf listedBytes (cursorAt 0 0)) ≡ 21474836480
+  pub noLine : partCrossed (commandLinePart head) ≡ 0
   -- "12 for a map not of 24n bytes or a GUID not of 16"
   pub map : mapFormed (replicate 24 0) ≡ true
   pub mapLeftOver : mapFormed (replicate 32 0) ≡ false

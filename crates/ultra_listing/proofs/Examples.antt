@@ -10,9 +10,9 @@ use Rattle.ultra_format.specs.Members.{every, sizeSuits, values, kernelValues, 
 use Rattle.ultra_format.specs.Places.{placed, occurs, placeFault}
 use Rattle.ultra_format.specs.Decoding.{entriesAt, decoded, start, attributesFrom, contextOf, typesBefore}
 use Rattle.ultra_reading.specs.Reading.{headFault, boundsFault, attributeFault, attributesAnswer, usedLength}
-use Rattle.ultra_listing.specs.Listing.{rangeLines, bodyLines, attributesLines, contextLines, linesOf}
+use Rattle.ultra_listing.specs.Listing.{rangeLines, bodyLines, attributesLines, contextLines, linesOf, listed}
 use Rattle.ultra_listing.specs.Examples.{Examples}
 
 pub examples : Examples
-unfolding numberAt bytesAt textAt valueBytes lineBytes each digits hexDigit isEscaped spelled total every sizeSuits values kernelValues moduleValues bppSuits framebufferValues texts asciiText pathText ranges ordered entriesOrdered bodyFault placed occurs placeFault entriesAt decoded start attributesFrom contextOf typesBefore headFault boundsFault attributeFault attributesAnswer usedLength rangeLines bodyLines attributesLines contextLines linesOf
-examples = record { listed = refl; everyType = refl; short = refl; refused = refl; escapes = refl; zero = refl; nine = refl; ten = refl; largest = refl }
+unfolding numberAt bytesAt textAt valueBytes lineBytes each digits hexDigit isEscaped spelled total every sizeSuits values kernelValues moduleValues bppSuits framebufferValues texts asciiText pathText ranges ordered entriesOrdered bodyFault placed occurs placeFault entriesAt decoded start attributesFrom contextOf typesBefore headFault boundsFault attributeFault attributesAnswer usedLength rangeLines bodyLines attributesLines contextLines linesOf listed
+examples = record { listed = refl; everyType = refl; short = refl; refused = refl; fits = refl; roomy = refl; tooShort = refl; escapes = refl; zero = refl; nine = refl; ten = refl; largest = refl }

@@ -8,7 +8,10 @@ use lib.ListN.{replicate}
 use Rattle.key_value_text.specs.Spelling.{ascii, each, decimal, spelled}
 use Rattle.ultra_format.specs.Examples.{listedBytes, everyTypeBytes}
 use Rattle.ultra_reading.specs.Cases.{head}
-use Rattle.ultra_listing.specs.Listing.{listing}
+use Rattle.ultra_format.specs.Answers.{refused}
+use Rattle.ultra_format.specs.declared.Answer.{Answer}
+use Rattle.ultra_format.specs.declared.Answer.the-variants.{Done}
+use Rattle.ultra_listing.specs.Listing.{listing, listed}
 
 -- "The whole listing of a context with four attributes"
 abbrev pub listedText : List ℕ
@@ -87,12 +90,23 @@ shortText =
     ++ ascii "path=/\n"
     ++ ascii "used=400\n"
 
+-- what `list` answers of "H alone" with an output of n bytes, and what the output has then
+abbrev pub headListed : ℕ → Answer × List ℕ
+headListed n = listed head (replicate n 165)
+
+abbrev pub noRoom : Answer
+noRoom = refused 18 0
+
 pub record Examples : Type 0 where
   pub listed : listing listedBytes ≡ listedText
   pub everyType : listing everyTypeBytes ≡ everyTypeText
   pub short : listing shortBytes ≡ shortText
   -- "H alone: HEADER at 8"
   pub refused : listing head ≡ ascii "refused=5,8\n"
+  -- into an output of just its length, of one byte more, and of one less: "a lent output is too short"
+  pub fits : headListed 12 ≡ (Done 12, ascii "refused=5,8\n")
+  pub roomy : headListed 13 ≡ (Done 12, ascii "refused=5,8\n" ++ (165 ∷ []))
+  pub tooShort : headListed 11 ≡ (noRoom, replicate 11 165)
   -- "bytes 1 to 31, 37, and 127 to 255", and their neighbours
   pub escapes : each spelled (1 ∷ 31 ∷ 32 ∷ 36 ∷ 37 ∷ 38 ∷ 126 ∷ 127 ∷ 255 ∷ []) ≡ ascii "%01%1F $%25&~%7F%FF"
   pub zero : decimal 0 ≡ ascii "0"
