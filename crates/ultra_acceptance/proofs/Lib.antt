@@ -11,3 +11,4 @@ pub mod ContextCells
 pub mod Alike
 pub mod Unread
 pub mod UnreadExample
+pub mod EveryReading

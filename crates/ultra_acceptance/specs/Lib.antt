@@ -3,3 +3,4 @@ pub mod Refusing
 pub mod Steps
 pub mod Unread
 pub mod UnreadExample
+pub mod EveryReading

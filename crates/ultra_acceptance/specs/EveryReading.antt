@@ -1,0 +1,63 @@
+-- Statements: consequences of those in Acceptance, Refusing, Steps and Unread for every buffer, and for one context that no writer of
+-- ours wrote. Each is proved from these statements alone (proofs/EveryReading.antt): with one premise more in one of them it would not
+-- follow. Of a buffer nothing is assumed but, where a list is found in it, that its elements are bytes.
+-- Assumes nothing.
+use Prim.Native.Nat.{ℕ, _<_}
+use mathlib.Core.Path.{_≡_}
+use mathlib.Core.Logic.{_⊎_}
+use mathlib.Core.List.{List, _++_}
+use lib.ListN.{length, getD, set}
+use Rattle.ultra_format.specs.Answers.{refusal}
+use Rattle.ultra_format.specs.Contexts.{Context, used}
+use Rattle.ultra_format.specs.Layouts.{Silent}
+use Rattle.ultra_format.specs.Decoding.{contextOf}
+use Rattle.ultra_format.specs.Examples.{everyType, everyTypeBytes}
+use Rattle.ultra_reading.specs.Reading.{readingOf}
+use Rattle.ultra_reading.specs.Stepping.{stepOf}
+use Rattle.ultra_reading.specs.declared.Reading.the-variants as reading
+use Rattle.ultra_reading.specs.declared.cursor.Header.{Header}
+use Rattle.ultra_reading.specs.declared.cursor.Cursor.{Cursor}
+use Rattle.ultra_reading.specs.declared.cursor.Step.the-variants.{Attribute, End, Refused}
+use Rattle.ultra_acceptance.specs.Acceptance.{HeldBy, versionIn}
+use Rattle.ultra_acceptance.specs.Refusing.{Refuses}
+use Rattle.ultra_acceptance.specs.Steps.{StepRefuses, StepEnds, StepGives, StepsThrough}
+use Rattle.ultra_acceptance.specs.Unread.{ReadAlike}
+
+-- whatever bytes a buffer holds, reading accepts the list that it holds, or refuses by the table
+abbrev pub EveryReading : Type 0
+EveryReading =
+    (b : List ℕ) → ((i : ℕ) → getD b i 0 < 256)
+    → ((c : Context) × HeldBy 2 b c × (readingOf b ≡ reading.Accepted (versionIn c) (used c)))
+    ⊎ ((n : ℕ) × (o : ℕ) × Refuses 2 b n o × (readingOf b ≡ reading.Refused (refusal n o)))
+
+-- and never both; the table names one refusal at most
+pub record OneReading (b : List ℕ) (n o : ℕ) : Type 0 where
+  pub notHeld : (c : Context) → HeldBy 2 b c → ⊥
+  pub only : (m p : ℕ) → Refuses 2 b m p → (m ≡ n) × (p ≡ o)
+
+abbrev pub OneReadings : Type 0
+OneReadings = (b : List ℕ) (n o : ℕ) → Refuses 2 b n o → OneReading b n o
+
+-- whatever a buffer and a cursor hold, a step is refused by the table, ends, or hands back an attribute
+abbrev pub EveryStep : Type 0
+EveryStep =
+    (b : List ℕ) (k : Cursor)
+    → ((n : ℕ) × (o : ℕ) × StepRefuses b k n o × (stepOf b k ≡ Refused (refusal n o)))
+    ⊎ ((StepEnds b k × (stepOf b k ≡ End)) ⊎ ((h : Header) × (m : Cursor) × StepGives b k h m × (stepOf b k ≡ Attribute h m)))
+
+-- the head's reserved bytes, 2 and 3, may hold anything, whatever else the buffer holds; and nothing from byte 65,536 on counts
+pub record UnreadEverywhere (b rest : List ℕ) (x : ℕ) : Type 0 where
+  pub second : ReadAlike b (set b 2 x)
+  pub third : ReadAlike b (set b 3 x)
+  pub longer : length b ≡ 65536 → ReadAlike b (b ++ rest) × ((k : Cursor) → stepOf (b ++ rest) k ≡ stepOf b k)
+
+abbrev pub UnreadInEvery : Type 0
+UnreadInEvery = (b rest : List ℕ) (x : ℕ) → UnreadEverywhere b rest x
+
+-- so may any byte that is silent in the list that is decoded from the buffer, be it refused or accepted
+abbrev pub SilentOverwritten : Type 0
+SilentOverwritten = (b : List ℕ) (i x : ℕ) → Silent (contextOf b) i → ReadAlike b (set b i x)
+
+-- steps go through the context with every type, which is not plain: no call of ours builds it
+abbrev pub StepsThroughEveryType : Type 0
+StepsThroughEveryType = StepsThrough everyTypeBytes everyType
