@@ -15,7 +15,7 @@ use Rattle.ultra_format.specs.Decoding.{start, contextOf}
 use Rattle.ultra_format.specs.Examples.{everyType, everyTypeBytes}
 use Rattle.ultra_format.proofs.Witness.{every-type-meets, every-type-opens}
 use Rattle.ultra_reading.specs.Reading.{readingOf, readingNumber, readingValue}
-use Rattle.ultra_reading.specs.Stepping.{stepOf}
+use Rattle.ultra_reading.specs.Stepping.{stepOf, stepNumber, stepValue}
 use Rattle.ultra_reading.specs.declared.Reading.{Reading}
 use Rattle.ultra_reading.specs.declared.Reading.the-variants as reading
 use Rattle.ultra_reading.specs.declared.cursor.Header.{Header}
@@ -26,7 +26,7 @@ use Rattle.ultra_acceptance.specs.Acceptance.{HeldBy, versionIn, ReadsEx
 use Rattle.ultra_acceptance.specs.Refusing.{Refuses, ReadingRefuses}
 use Rattle.ultra_acceptance.specs.Steps.{StepRefuses, StepEnds, StepGives, StepsExactly, SteppingThrough}
 use Rattle.ultra_acceptance.specs.Unread.{ReadAlike, PastRoomUnread, SameButSilent, SilentUnread, SilentInListUnread}
-use Rattle.ultra_acceptance.specs.EveryReading.{EveryReading, OneReadings, EveryStep, UnreadInEvery, SilentOverwritten, StepsThroughEveryType}
+use Rattle.ultra_acceptance.specs.EveryReading.{EveryReading, OneReadings, EveryStep, OneSteps, UnreadInEvery, SilentOverwritten, StepsThroughEveryType}
 use Rattle.ultra_acceptance.proofs.Acceptance.{reads-exactly, held-reading}
 use Rattle.ultra_acceptance.proofs.Refusing.{reading-refuses}
 use Rattle.ultra_acceptance.proofs.Steps.{steps-exactly, stepping-through}
@@ -72,8 +72,32 @@ module _ (exactly : StepsExactly) where
       go End e = inr (inl (exactly .ends b k .0 e, e))
       go (Attribute h m) e = inr (inr (h, m, exactly .gives b k h m .0 e, e))
 
+  only-one : OneSteps
+  only-one b k =
+      record {
+        only = λ n o m p t u. let q = sym (refused n o t) ∙ refused m p u in (ap stepNumber q, ap stepValue q);
+        notEnd = λ n o t u. let q = sym (refused n o t) ∙ exactly .ends b k .1 u in refused-end n o q;
+        notGiven = λ n o h m t u. let q = sym (refused n o t) ∙ exactly .gives b k h m .1 u in refused-given n o h m q;
+        notBoth = λ h m t u. let q = sym (exactly .ends b k .1 t) ∙ exactly .gives b k h m .1 u in end-given h m q;
+      }
+    where
+      refused : (n o : ℕ) → StepRefuses b k n o → stepOf b k ≡ Refused (refusal n o)
+      refused n o = exactly .refuses b k (refusal n o) .1
+
+      refused-end : (n o : ℕ) → Refused (refusal n o) ≡ End → ⊥
+      refused-end n o q = let z : _≡_ {A = ℕ} 0 1 = cc in omega arith
+
+      refused-given : (n o : ℕ) (h : Header) (m : Cursor) → Refused (refusal n o) ≡ Attribute h m → ⊥
+      refused-given n o h m q = let z : _≡_ {A = ℕ} 0 1 = cc in omega arith
+
+      end-given : (h : Header) (m : Cursor) → End ≡ Attribute h m → ⊥
+      end-given h m q = let z : _≡_ {A = ℕ} 0 1 = cc in omega arith
+
 pub every-step : EveryStep
 every-step = one-of-three steps-exactly
+
+pub one-steps : OneSteps
+one-steps = only-one steps-exactly
 
 through-every-type : SteppingThrough → StepsThroughEveryType
 through-every-type t = t everyTypeBytes everyType (every-type-meets, every-type-opens)

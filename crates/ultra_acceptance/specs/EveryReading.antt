@@ -45,6 +45,16 @@ EveryStep =
     → ((n : ℕ) × (o : ℕ) × StepRefuses b k n o × (stepOf b k ≡ Refused (refusal n o)))
     ⊎ ((StepEnds b k × (stepOf b k ≡ End)) ⊎ ((h : Header) × (m : Cursor) × StepGives b k h m × (stepOf b k ≡ Attribute h m)))
 
+-- and only one of the three; here too the table names one refusal at most
+pub record OneStep (b : List ℕ) (k : Cursor) : Type 0 where
+  pub only : (n o m p : ℕ) → StepRefuses b k n o → StepRefuses b k m p → (n ≡ m) × (o ≡ p)
+  pub notEnd : (n o : ℕ) → StepRefuses b k n o → StepEnds b k → ⊥
+  pub notGiven : (n o : ℕ) (h : Header) (m : Cursor) → StepRefuses b k n o → StepGives b k h m → ⊥
+  pub notBoth : (h : Header) (m : Cursor) → StepEnds b k → StepGives b k h m → ⊥
+
+abbrev pub OneSteps : Type 0
+OneSteps = (b : List ℕ) (k : Cursor) → OneStep b k
+
 -- the head's reserved bytes, 2 and 3, may hold anything, whatever else the buffer holds; and nothing from byte 65,536 on counts
 pub record UnreadEverywhere (b rest : List ℕ) (x : ℕ) : Type 0 where
   pub second : ReadAlike b (set b 2 x)
