@@ -26,7 +26,7 @@ use Rattle.ultra_acceptance.specs.Acceptance.{HeldBy, versionIn, ReadsEx
 use Rattle.ultra_acceptance.specs.Refusing.{Refuses, ReadingRefuses}
 use Rattle.ultra_acceptance.specs.Steps.{StepRefuses, StepEnds, StepGives, StepsExactly, SteppingThrough}
 use Rattle.ultra_acceptance.specs.Unread.{ReadAlike, PastRoomUnread, SameButSilent, SilentUnread, SilentInListUnread}
-use Rattle.ultra_acceptance.specs.EveryReading.{EveryReading, OneReadings, EveryStep, OneSteps, UnreadInEvery, SilentOverwritten, StepsThroughEveryType}
+use Rattle.ultra_acceptance.specs.EveryReading.{EveryReading, OneReadings, EveryStep, OneSteps, UnreadInEvery, SilentOverwritten, AcceptedSteps, StepsThroughEveryType}
 use Rattle.ultra_acceptance.proofs.Acceptance.{reads-exactly, held-reading}
 use Rattle.ultra_acceptance.proofs.Refusing.{reading-refuses}
 use Rattle.ultra_acceptance.proofs.Steps.{steps-exactly, stepping-through}
@@ -99,6 +99,12 @@ every-step = one-of-three steps-exactly
 pub one-steps : OneSteps
 one-steps = only-one steps-exactly
 
+through-accepted : ReadsExactly → SteppingThrough → AcceptedSteps
+through-accepted exactly t b y e = let s = exactly b y .0 e in (s .0, s .1, t b (s .0) (s .1))
+
+pub accepted-steps : AcceptedSteps
+accepted-steps = through-accepted reads-exactly stepping-through
+
 through-every-type : SteppingThrough → StepsThroughEveryType
 through-every-type t = t everyTypeBytes everyType (every-type-meets, every-type-opens)
 
@@ -134,8 +140,8 @@ module _ (silent : SilentUnread) (past : PastRoomUnread) where
   unread-everywhere : UnreadInEvery
   unread-everywhere b rest x =
       record {
-        second = silent b (set b 2 x) (reserved b 2 x (omega arith) (λ j m n. m));
-        third = silent b (set b 3 x) (reserved b 3 x (omega arith) (λ j m n. n));
+        byte2 = silent b (set b 2 x) (reserved b 2 x (omega arith) (λ j m n. m));
+        byte3 = silent b (set b 3 x) (reserved b 3 x (omega arith) (λ j m n. n));
         longer = past-room b rest;
       }
 

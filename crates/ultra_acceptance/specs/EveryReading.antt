@@ -1,6 +1,6 @@
--- Statements: consequences of those in Acceptance, Refusing, Steps and Unread for every buffer, and for one context that no writer of
--- ours wrote. Each is proved from these statements alone (proofs/EveryReading.antt): with one premise more in one of them it would not
--- follow. Of a buffer nothing is assumed but, where a list is found in it, that its elements are bytes.
+-- Statements: what follows for every buffer from the statements of Acceptance, Refusing, Steps and Unread, and for one context that is
+-- not plain. Each is proved with these as parameters (proofs/EveryReading.antt), so that a premise which one of them should not have
+-- would be missing there. Of a buffer nothing is assumed but, where a list is found in it, that its elements are bytes.
 -- Assumes nothing.
 use Prim.Native.Nat.{ℕ, _<_}
 use mathlib.Core.Path.{_≡_}
@@ -12,7 +12,7 @@ use Rattle.ultra_format.specs.Contexts.{Context, used}
 use Rattle.ultra_format.specs.Layouts.{Silent}
 use Rattle.ultra_format.specs.Decoding.{contextOf}
 use Rattle.ultra_format.specs.Examples.{everyType, everyTypeBytes}
-use Rattle.ultra_reading.specs.Reading.{readingOf}
+use Rattle.ultra_reading.specs.Reading.{readingOf, readingNumber}
 use Rattle.ultra_reading.specs.Stepping.{stepOf}
 use Rattle.ultra_reading.specs.declared.Reading.the-variants as reading
 use Rattle.ultra_reading.specs.declared.cursor.Header.{Header}
@@ -57,8 +57,8 @@ OneSteps = (b : List ℕ) (k : Cursor) → OneStep b k
 
 -- the head's reserved bytes, 2 and 3, may hold anything, whatever else the buffer holds; and nothing from byte 65,536 on counts
 pub record UnreadEverywhere (b rest : List ℕ) (x : ℕ) : Type 0 where
-  pub second : ReadAlike b (set b 2 x)
-  pub third : ReadAlike b (set b 3 x)
+  pub byte2 : ReadAlike b (set b 2 x)
+  pub byte3 : ReadAlike b (set b 3 x)
   pub longer : length b ≡ 65536 → ReadAlike b (b ++ rest) × ((k : Cursor) → stepOf (b ++ rest) k ≡ stepOf b k)
 
 abbrev pub UnreadInEvery : Type 0
@@ -68,6 +68,10 @@ UnreadInEvery = (b rest : List ℕ) (x : ℕ) → UnreadEverywhere b rest x
 abbrev pub SilentOverwritten : Type 0
 SilentOverwritten = (b : List ℕ) (i x : ℕ) → Silent (contextOf b) i → ReadAlike b (set b i x)
 
--- steps go through the context with every type, which is not plain: no call of ours builds it
+-- whatever bytes reading accepts, steps go through the list that the buffer holds
+abbrev pub AcceptedSteps : Type 0
+AcceptedSteps = (b : List ℕ) → ((i : ℕ) → getD b i 0 < 256) → readingNumber (readingOf b) ≡ 0 → (c : Context) × HeldBy 2 b c × StepsThrough b c
+
+-- so they go through the context with every type, which is not plain
 abbrev pub StepsThroughEveryType : Type 0
 StepsThroughEveryType = StepsThrough everyTypeBytes everyType
