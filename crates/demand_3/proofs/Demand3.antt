@@ -15,7 +15,7 @@ use Rattle.ultra_format.specs.Layouts.{roomOf}
 use Rattle.ultra_reading.specs.Reading.{readingValue}
 use Rattle.ultra_acceptance.proofs.Acceptance.{one-context, silent-bytes, reads-exactly, held-reading}
 use Rattle.ultra_questions.specs.declared.attributes.AttributeAnswer.{AttributeAnswer}
-use Rattle.ultra_questions.specs.Parts.{PartOf, bodyPart, partBytes}
+use Rattle.ultra_questions.specs.Parts.{PartOf, LiesAt, bodyPart, partBytes}
 use Rattle.ultra_questions.specs.AttributeQuestion.{answered, unanswered, startOrCount, withMembers, attributeAnswer, PartHandedBack}
 use Rattle.demand_3.specs.Demand3.{Held, ReadingIs, SameReading, Demand3}
 use Rattle.ultra_questions.proofs.PartCells.{part-bytes, slice-bytes, slice-empty}
@@ -38,10 +38,10 @@ module _ (b : List ℕ) (c : Context) (h : Held b c) (i : ℕ) where
     slice : PartOf lent s (attributeAnswer b i .part)
     slice = subst (λ (l : List ℕ). PartOf lent s (attributeAnswer l i .part)) e p
 
-    slice-below : i < count c → PartOf lent s (bodyPart (startIn (c .attributes) i) (bodyAt c i)) × (lent .now ≡ partBytes (bodyAt c i))
+    slice-below : i < count c → let p = bodyPart (startIn (c .attributes) i) (bodyAt c i) in PartOf lent s p × LiesAt lent s (p .start) × (lent .now ≡ partBytes (bodyAt c i))
     slice-below k =
         let w = subst (λ (a : AttributeAnswer). PartOf lent s (a .part)) (below k) slice in
-        (w, slice-bytes b lent s (bodyPart (startIn (c .attributes) i) (bodyAt c i)) e w ∙ part-bytes b 2 (roomOf b) c (h .0) (h .1) i k)
+        (w, (w .block, w .offset), slice-bytes b lent s (bodyPart (startIn (c .attributes) i) (bodyAt c i)) e w ∙ part-bytes b 2 (roomOf b) c (h .0) (h .1) i k)
 
     slice-beyond : count c ≤ i → lent .now ≡ []
     slice-beyond k = slice-empty lent s (attributeAnswer b i .part) (ap (λ (a : AttributeAnswer). a .part) (beyond k)) slice
@@ -64,7 +64,7 @@ module _ (b d : List ℕ) (c : Context) (g : Held b c) (h : Held d c) where
 
   module _ (lent other s t : RefT (List ℕ)) (i : ℕ) (e : s .now ≡ b) (f : t .now ≡ d) (p : PartHandedBack lent s i) (q : PartHandedBack other t i) where
     slice-same : (u : Bool) → ltb i (count c) ≡ u → other .now ≡ lent .now
-    slice-same true k = let l = ltb-true i (count c) k in slice-below d c h i other t f q l .1 ∙ sym (slice-below b c g i lent s e p l .1)
+    slice-same true k = let l = ltb-true i (count c) k in slice-below d c h i other t f q l .2 ∙ sym (slice-below b c g i lent s e p l .2)
     slice-same false k = let l = ltb-false i (count c) k in slice-beyond d c h i other t f q l ∙ sym (slice-beyond b c g i lent s e p l)
 
   same : SameReading b d

@@ -98,9 +98,9 @@ module _ (b d : List ℕ) (c e : Context) (g : ReadingIs b c) (h : ReadingIs d e
   same-part : (i : ℕ) → i < count c → i < count e → partBytes (bodyAt c i) ≡ partBytes (bodyAt e i)
   unfolding buffer slice
   same-part i k l =
-      sym (g .slices (slice b i) (buffer b) i refl k (handed-back b i) .1)
+      sym (g .slices (slice b i) (buffer b) i refl k (handed-back b i) .2)
       ∙ sym (s .slices (slice b i) (slice d i) (buffer b) (buffer d) i refl refl (handed-back b i) (handed-back d i))
-      ∙ h .slices (slice d i) (buffer d) i refl l (handed-back d i) .1
+      ∙ h .slices (slice d i) (buffer d) i refl l (handed-back d i) .2
 
   module _ {fewest room more space : ℕ} (m : Meets fewest room c) (n : Meets more space e) where
     same-body : (i : ℕ) → i < count c → i < count e → bodyAt c i ≡ bodyAt e i

@@ -131,9 +131,9 @@ witnessed =
       entriesSlice = entries-slice;
       lineSlice = line-slice;
       noSlice = handed-back 7 4096 [] (place 7 _ (is .past 7 (omega arith))) past;
-      anyEntries = λ lent s e p. is .slices lent s 2 e (omega arith) p;
+      anyEntries = λ lent s e p. let w = is .slices lent s 2 e (omega arith) p in (w .0, w .1 .0, w .1 .1, w .2);
       anyPast = λ lent s i e h p. is .noSlices lent s i e h p;
-      anyLine = λ lent s e p. is .slices lent s 4 e (omega arith) p;
+      anyLine = λ lent s e p. let w = is .slices lent s 4 e (omega arith) p in (w .0, w .1 .0, w .1 .1, w .2);
       differs = differs;
       noisy = λ i h e. (sym (laid i) ∙ silent-noise everyCells (junk 5) i (omega (arith, wide)) e, silent-zero everyCells i e);
       same = same;

@@ -17,7 +17,7 @@ use Rattle.ultra_reading.specs.Reading.{readingOf, readingNumber}
 use Rattle.ultra_reading.specs.declared.Version.{Version}
 use Rattle.ultra_reading.specs.declared.Reading.the-variants.{Accepted}
 use Rattle.ultra_acceptance.specs.Acceptance.{HeldBy, DiffersInSilence, versionIn}
-use Rattle.ultra_questions.specs.Parts.{PartOf, bodyPart, partBytes}
+use Rattle.ultra_questions.specs.Parts.{PartOf, LiesAt, bodyPart, partBytes}
 use Rattle.ultra_questions.specs.AttributeQuestion.{answered, unanswered, attributeAnswer, PartHandedBack}
 
 -- "some list meets the rules and its bytes open the buffer": 2 is the lower limit of the count, and the room is that of the buffer
@@ -40,7 +40,7 @@ pub record ReadingIs (b : List ℕ) (c : Context) : Type 0 where
   -- "a map or command line as its part of the buffer's entries or text, up to its zero": whatever slice is handed back of a buffer s
   -- that has these bytes, it is memory of s, at the attribute's part, and has the bytes of the list's part; from the count on it has none
   pub slices : (lent s : RefT (List ℕ)) (i : ℕ) → s .now ≡ b → i < count c → PartHandedBack lent s i
-      → PartOf lent s (bodyPart (startIn (c .attributes) i) (bodyAt c i)) × (lent .now ≡ partBytes (bodyAt c i))
+      → let p = bodyPart (startIn (c .attributes) i) (bodyAt c i) in PartOf lent s p × LiesAt lent s (p .start) × (lent .now ≡ partBytes (bodyAt c i))
   pub noSlices : (lent s : RefT (List ℕ)) (i : ℕ) → s .now ≡ b → count c ≤ i → PartHandedBack lent s i → lent .now ≡ []
 
 -- "The version and the used length that reading answers, with these answers from index 0 on, are the reading."

@@ -4,7 +4,7 @@
 -- (Examples, of crate ultra_format, has the context and its bytes.) And a platform of 56 bytes is answered without late members. Proved
 -- in proofs/Witness.antt: `witnessed`.
 -- Assumes nothing.
-use Prim.Native.Nat.{ℕ, suc, _≤_, _<_}
+use Prim.Native.Nat.{ℕ, suc, _+_, _≤_, _<_}
 use mathlib.Core.Path.{_≡_}
 use mathlib.Core.List.{List, [], _∷_, _++_}
 use lib.ListN.{getD}
@@ -136,9 +136,11 @@ pub record Witnessed : Type 0 where
   pub entriesSlice : PartHandedBack (lentAt 4552 everyEntries) (lentAt 4096 everyTypeBytes) 2
   pub lineSlice : PartHandedBack (lentAt 4712 everyLine) (lentAt 4096 everyTypeBytes) 4
   pub noSlice : PartHandedBack (lentAt 4096 []) (lentAt 4096 everyTypeBytes) 7
-  pub anyEntries : (lent s : RefT (List ℕ)) → s .now ≡ everyTypeBytes → PartHandedBack lent s 2 → PartOf lent s (part 456 48) × (lent .now ≡ everyEntries)
+  pub anyEntries : (lent s : RefT (List ℕ)) → s .now ≡ everyTypeBytes → PartHandedBack lent s 2
+      → PartOf lent s (part 456 48) × (lent .ptr .0 ≡ s .ptr .0) × (lent .ptr .1 ≡ 456 + s .ptr .1) × (lent .now ≡ everyEntries)
   pub anyPast : (lent s : RefT (List ℕ)) (i : ℕ) → s .now ≡ everyTypeBytes → 7 ≤ i → PartHandedBack lent s i → lent .now ≡ []
-  pub anyLine : (lent s : RefT (List ℕ)) → s .now ≡ everyTypeBytes → PartHandedBack lent s 4 → PartOf lent s (part 616 8) × (lent .now ≡ everyLine)
+  pub anyLine : (lent s : RefT (List ℕ)) → s .now ≡ everyTypeBytes → PartHandedBack lent s 4
+      → PartOf lent s (part 616 8) × (lent .ptr .0 ≡ s .ptr .0) × (lent .ptr .1 ≡ 616 + s .ptr .1) × (lent .now ≡ everyLine)
   -- its silent bytes are 165; a writer writes zeros there, and the readings are the same
   pub differs : DiffersInSilence everyType everyTypeBytes (written everyType)
   pub noisy : (i : ℕ) → i < used everyType → Silent everyType i → (getD everyTypeBytes i 0 ≡ 165) × (getD (written everyType) i 0 ≡ 0)

@@ -17,7 +17,7 @@ use Rattle.ultra_format.proofs.Decoded.{count-decoded, start-decoded, at-decode
 use Rattle.ultra_reading.specs.Reading.{usedLength}
 use Rattle.ultra_acceptance.specs.Acceptance.{HeldBy}
 use Rattle.ultra_acceptance.proofs.Acceptance.{complete}
-use Rattle.ultra_questions.specs.Parts.{PartOf, bodyPart, partBytes}
+use Rattle.ultra_questions.specs.Parts.{PartOf, LiesAt, bodyPart, partBytes}
 use Rattle.ultra_questions.specs.AttributeQuestion.{attributeStart, attributeAnswer}
 use Rattle.ultra_questions.specs.MapQuestion.{mapCopied}
 use Rattle.ultra_questions.specs.CommandLineQuestion.{commandLineIn, textIn, commandLinePart, LineHandedBack}
@@ -52,10 +52,10 @@ module _ (b : List ℕ) (c : Context) (h : HeldBy 2 b (contextOf b)) (e : usedLe
   text-is : let p = commandLineIn c in bytesAt b (p .start) (p .length) ≡ textIn c
   text-is = rw q at (line-text b h)
 
-  slice-is : (lent s : RefT (List ℕ)) → s .now ≡ b → LineHandedBack lent s → PartOf lent s (commandLineIn c) × (lent .now ≡ textIn c)
+  slice-is : (lent s : RefT (List ℕ)) → s .now ≡ b → LineHandedBack lent s → PartOf lent s (commandLineIn c) × LiesAt lent s (commandLineIn c .start) × (lent .now ≡ textIn c)
   slice-is lent s k g =
       let w = subst (PartOf lent s) (ap commandLinePart k ∙ line-is) g in
-      (w, slice-bytes b lent s (commandLineIn c) k w ∙ text-is)
+      (w, (w .block, w .offset), slice-bytes b lent s (commandLineIn c) k w ∙ text-is)
 
   by-context : ByContext b c
   unfolding attributeStart attributeAnswer mapCopied moduleHolding

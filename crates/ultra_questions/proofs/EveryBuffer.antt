@@ -26,6 +26,8 @@ use Rattle.ultra_reading.specs.Reading.{usedLength, withVersion, versionOf, rea
 use Rattle.ultra_reading.specs.declared.Reading.the-variants as reading
 use Rattle.ultra_acceptance.specs.Acceptance.{HeldBy}
 use Rattle.ultra_acceptance.proofs.Acceptance.{accepts-exactly}
+use Rattle.ultra_questions.specs.declared.part.Part.{Part}
+use Rattle.ultra_questions.specs.declared.attributes.AttributeAnswer.{AttributeAnswer}
 use Rattle.ultra_questions.specs.Parts.{part, PartOf, partBytes}
 use Rattle.ultra_questions.specs.Searching.{firstIn, ofType}
 use Rattle.ultra_questions.specs.EveryBuffer.{RefusedBy, MapHeld, NoLine, LineHeld, AnswersOf, EveryBuffer}
@@ -33,10 +35,11 @@ use Rattle.ultra_questions.specs.QuestionRefusals.{MapRefused, Questions
 use Rattle.ultra_questions.specs.ByContext.{QuestionsByContext}
 use Rattle.ultra_questions.specs.ByIndex.{QuestionsByIndex}
 use Rattle.ultra_questions.specs.MapAsBytes.{CopiesBytes}
-use Rattle.ultra_questions.specs.AttributeQuestion.{answered, withMembers, attributeStart, attributeAnswer}
+use Rattle.ultra_questions.specs.AttributeQuestion.{answered, withMembers, attributeStart, attributeAnswer, PartHandedBack}
 use Rattle.ultra_questions.specs.MapQuestion.{numbers, mapCopied, mapCopiedBytes}
 use Rattle.ultra_questions.specs.CommandLineQuestion.{commandLineIn, LineHandedBack}
 use Rattle.ultra_questions.specs.ModuleQuestion.{moduleHolding}
+use Rattle.ultra_questions.proofs.PartCells.{slice-empty}
 use Rattle.ultra_questions.proofs.FirstByIndex.{Outcome, outcome}
 use Rattle.ultra_questions.proofs.QuestionRefusals.{done-refused, map-body, questions-refuse, refusals-pass-on}
 use Rattle.ultra_questions.proofs.ByContext.{questions-by-context}
@@ -152,6 +155,12 @@ module _ (refuse : QuestionsRefuseExactly) (pass : RefusalsPassOn) (byContext : 
       )
       go false q k = absurd (let z : _≡_ {A = ℕ} 0 1 = cc in omega arith)
 
+  no-part : (lent s : RefT (List ℕ)) (i : ℕ) (r : Refusal) → s .now ≡ b → attributeStart b i ≡ Refused r → PartHandedBack lent s i → Either b y → lent .now ≡ []
+  no-part lent s i r k e p (inl (q, u)) = pass b q u .noSlice lent s i k p
+  no-part lent s i r k e p (inr (c, h)) =
+      let w = byContext b c h .attributes i ∙ ap (withMembers (attributeAt c i)) (sym (byContext b c h .starts i) ∙ e) in
+      slice-empty lent s (attributeAnswer (s .now) i .part) (ap (λ (l : List ℕ). attributeAnswer l i .part) k ∙ ap (λ (a : AttributeAnswer). a .part) w) p
+
   copied : (out : List ℕ) (n : ℕ) → mapCopied b out .0 ≡ Done n → (c : Context) × HeldBy 2 b c
       → (es : List Entry) × MapHeld b es × (n ≡ length es) × (mapCopied b out .1 ≡ over (numbers es) out)
   copied out n e (c, h) =
@@ -176,15 +185,15 @@ module _ (refuse : QuestionsRefuseExactly) (pass : RefusalsPassOn) (byContext : 
     line-of : (c : Context) → HeldBy 2 b c → Outcome (ofType 5) 8 (c .attributes) (firstIn (ofType 5) c) → ((lent .now ≡ []) × NoLine b) ⊎ LineHeld b lent s
     line-of c h (inl r) =
         let n : (i : ℕ) → i < count c → typeAt c i ≡ 5 → ⊥ = λ i k. eqb-false (typeAt c i) 5 (r .1 i k) in
-        inl (byContext b c h .slice lent s e p .1 ∙ byIndex b c h .noLine n .1, inr (c, h, n))
+        inl (byContext b c h .slice lent s e p .2 ∙ byIndex b c h .noLine n .1, inr (c, h, n))
     line-of c h (inr f) =
         let i = f .index in
         let k = line-body (bodyAt c i) (h .0 .each i (f .below) .typeSuits) (eqb-true (typeAt c i) 5 (f .meets)) in
         let w = byIndex b c h .line i (k .0) (f .below) (k .1) in
         let l = byContext b c h .slice lent s e p in
-        let t : k .0 ≡ lent .now = sym (w .1) ∙ sym (l .1) in
+        let t : k .0 ≡ lent .now = sym (w .1) ∙ sym (l .2) in
         let q : commandLineIn c ≡ part (startIn (c .attributes) i + 8) (length (lent .now)) = sym (byContext b c h .line) ∙ w .0 ∙ ap (λ (x : List ℕ). part (startIn (c .attributes) i + 8) (length x)) t in
-        inr (c, h, i, f .below, k .1 ∙ ap commandLine t, subst (PartOf lent s) q (l .0))
+        inr (c, h, i, f .below, k .1 ∙ ap commandLine t, (l .1 .0, l .1 .1 ∙ ap (λ (x : Part). x .start + s .ptr .1) q), subst (PartOf lent s) q (l .0))
 
     line-is : Either b y → ((lent .now ≡ []) × NoLine b) ⊎ LineHeld b lent s
     line-is (inl (r, q)) = inl (pass b r q .noLine lent s e p, inl (r, read-refused b y r q))
@@ -199,6 +208,7 @@ module _ (refuse : QuestionsRefuseExactly) (pass : RefusalsPassOn) (byContext : 
         moduleRefused = λ a r. (module-refused a r (either b y), λ e. pass b r (refused-read b y r e) .modules a);
         mapKept = λ out r q. kept out r q (either b y);
         bytesKept = λ out r z q. copies b out y z .refuses r q;
+        noPart = λ lent s i r k e p. no-part lent s i r k e p (either b y);
         attributeStarts = λ i o e. starts i o e (held b y (attributeStart b i) o (λ s k. pass b s k .starts i) e (either b y));
         mapCopies = λ out n e. copied out n e (held b y (mapCopied b out .0) n (map-pass out) e (either b y));
         bytesCopied = λ out n z e. bytes-copied out n z e (held b y (mapCopiedBytes b out .0) n (bytes-pass out) e (either b y));

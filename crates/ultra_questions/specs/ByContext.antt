@@ -8,7 +8,7 @@ use denote.Ref.{RefT}
 use Rattle.byte_layout.specs.Stored.{bytesAt}
 use Rattle.ultra_format.specs.Contexts.{Context, attributeAt}
 use Rattle.ultra_acceptance.specs.Acceptance.{HeldBy}
-use Rattle.ultra_questions.specs.Parts.{PartOf}
+use Rattle.ultra_questions.specs.Parts.{PartOf, LiesAt}
 use Rattle.ultra_questions.specs.AttributeQuestion.{startOrCount, withMembers, attributeStart, attributeAnswer}
 use Rattle.ultra_questions.specs.MapQuestion.{mapIn, mapCopied}
 use Rattle.ultra_questions.specs.CommandLineQuestion.{commandLineIn, textIn, commandLinePart, LineHandedBack}
@@ -22,7 +22,8 @@ pub record ByContext (b : List ℕ) (c : Context) : Type 0 where
   pub text : bytesAt b (commandLinePart b .start) (commandLinePart b .length) ≡ textIn c
   -- "The command line is handed back as that part of the buffer": whatever slice `command_line` hands back of a buffer that has these
   -- bytes lies there and has the text
-  pub slice : (lent s : RefT (List ℕ)) → s .now ≡ b → LineHandedBack lent s → PartOf lent s (commandLineIn c) × (lent .now ≡ textIn c)
+  pub slice : (lent s : RefT (List ℕ)) → s .now ≡ b → LineHandedBack lent s
+      → PartOf lent s (commandLineIn c) × LiesAt lent s (commandLineIn c .start) × (lent .now ≡ textIn c)
   pub modules : (a : ℕ) → moduleHolding b a ≡ moduleIn c a
 
 abbrev pub QuestionsByContext : Type 0

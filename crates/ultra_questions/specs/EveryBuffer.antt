@@ -15,8 +15,8 @@ use Rattle.ultra_format.specs.declared.Answer.the-variants.{Done, Refused}
 use Rattle.ultra_reading.specs.Reading.{readingOf}
 use Rattle.ultra_reading.specs.declared.Reading.the-variants as reading
 use Rattle.ultra_acceptance.specs.Acceptance.{HeldBy}
-use Rattle.ultra_questions.specs.Parts.{part, PartOf, partBytes}
-use Rattle.ultra_questions.specs.AttributeQuestion.{answered, attributeStart, attributeAnswer}
+use Rattle.ultra_questions.specs.Parts.{part, PartOf, LiesAt, partBytes}
+use Rattle.ultra_questions.specs.AttributeQuestion.{answered, attributeStart, attributeAnswer, PartHandedBack}
 use Rattle.ultra_questions.specs.MapQuestion.{numbers, mapCopied, mapCopiedBytes}
 use Rattle.ultra_questions.specs.CommandLineQuestion.{LineHandedBack}
 use Rattle.ultra_questions.specs.ModuleQuestion.{moduleHolding}
@@ -38,7 +38,8 @@ NoLine b = ((r : Refusal) × (readingOf b ≡ reading.Refused r)) ⊎ ((c : Cont
 -- `lent` is the text of the command line that the list has, as the memory of s 8 bytes after the attribute's start
 abbrev pub LineHeld : List ℕ → RefT (List ℕ) → RefT (List ℕ) → Type 0
 LineHeld b lent s =
-    (c : Context) × HeldBy 2 b c × (i : ℕ) × (i < count c) × (bodyAt c i ≡ commandLine (lent .now)) × PartOf lent s (part (startIn (c .attributes) i + 8) (length (lent .now)))
+    (c : Context) × HeldBy 2 b c × (i : ℕ) × (i < count c) × (bodyAt c i ≡ commandLine (lent .now))
+    × LiesAt lent s (startIn (c .attributes) i + 8) × PartOf lent s (part (startIn (c .attributes) i + 8) (length (lent .now)))
 
 pub record AnswersOf (b : List ℕ) : Type 0 where
   pub attributeRefused : (i : ℕ) (r : Refusal) → (attributeStart b i ≡ Refused r) ↔ RefusedBy b r (λ c. IndexRefused c i r)
@@ -48,6 +49,8 @@ pub record AnswersOf (b : List ℕ) : Type 0 where
   -- "the buffer and all lent memory are unchanged"
   pub mapKept : (out : List ℕ) (r : Refusal) → mapCopied b out .0 ≡ Refused r → mapCopied b out .1 ≡ out
   pub bytesKept : (out : List ℕ) (r : Refusal) → ((i : ℕ) → getD out i 0 < 256) → mapCopiedBytes b out .0 ≡ Refused r → mapCopiedBytes b out .1 ≡ out
+  -- where the answer at an index is a refusal, the slice that is handed back has no bytes
+  pub noPart : (lent s : RefT (List ℕ)) (i : ℕ) (r : Refusal) → s .now ≡ b → attributeStart b i ≡ Refused r → PartHandedBack lent s i → lent .now ≡ []
   -- where nothing is refused
   pub attributeStarts : (i o : ℕ) → attributeStart b i ≡ Done o
       → (c : Context) × HeldBy 2 b c × (i < count c) × (o ≡ startIn (c .attributes) i) × (attributeAnswer b i ≡ answered o (attributeAt c i))

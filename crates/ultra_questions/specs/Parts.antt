@@ -27,6 +27,10 @@ pub record PartOf (r s : RefT (List ℕ)) (p : Part) : Type 0 where
   pub within : p .start + p .length ≤ length (s .now)
   pub has : r .now ≡ bytesAt (s .now) (p .start) (p .length)
 
+-- the same said of the pointers alone, apart from `PartOf`: r is memory of s, `o` bytes further on
+abbrev pub LiesAt : RefT (List ℕ) → RefT (List ℕ) → ℕ → Type 0
+LiesAt r s o = (r .ptr .0 ≡ s .ptr .0) × (r .ptr .1 ≡ o + s .ptr .1)
+
 -- the part of an attribute that starts at `o`: entries and text stand from its byte 8 on
 unfoldable pub bodyPart : ℕ → Body → Part
 bodyPart o (platform p) = noPart
