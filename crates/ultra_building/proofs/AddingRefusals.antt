@@ -9,6 +9,7 @@ use mathlib.Core.Logic.{_↔_, _⊎_, _⊎_.inl, _⊎_.inr, ⊎-elim}
 use native.Mathlib.Omega.{arith}
 use lib.ListN.{length}
 use lib.Dec.{leb, ltb, eqb}
+use borrow.Fn.Enter.{pair≡}
 use borrow.Author.Tests.{lt-leb, leb-false, ltb-true, ltb-false, eqb-true, eqb-false, eq-eqb, ne-eqb}
 use Rattle.byte_layout.specs.Stored.{Bytes}
 use Rattle.ultra_format.specs.Refusals.{unless, firstOf, PLACE, REPEAT, SPLIT, FORM, VALUE, TEXT, RANGE, ORDER, FULL, ROOM}
@@ -18,7 +19,7 @@ use Rattle.ultra_format.specs.Contexts.{Member.present, Member.absent, Body.pla
 use Rattle.ultra_format.specs.Layouts.{roomOf}
 use Rattle.ultra_format.specs.Members.{presentIf, sizeSuits, values, texts, ranges, ordered, bodyFault}
 use Rattle.ultra_format.specs.Plain.{writtenSize}
-use Rattle.ultra_format.specs.Places.{placeFault}
+use Rattle.ultra_format.specs.Places.{placed, occurs, placeFault}
 use Rattle.ultra_format.specs.Decoding.{storedType, storedCount, contextOf, typesBefore}
 use Rattle.ultra_format.specs.Additions.{givenFault}
 use Rattle.ultra_format.specs.declared.Refusal.{Refusal}
@@ -35,7 +36,7 @@ use Rattle.ultra_acceptance.proofs.Least.{Chain, ends, try, past as beyond, lin
 use Rattle.ultra_acceptance.proofs.Refusing.{refuses-exactly}
 use Rattle.ultra_acceptance.proofs.Rows.{Misplaced, Earlier, Repeated, Parted, place-chain}
 use Rattle.ultra_building.specs.Building.{placementFault, placement, addedAt, addedMembers}
-use Rattle.ultra_building.specs.AddingRefusals.{Occurs, Incomplete, AdditionBreaks, rank, FirstBroken, AddRefused, AddingRefuses, RefusedAddKeeps, AddingSucceeds}
+use Rattle.ultra_building.specs.AddingRefusals.{Occurs, Incomplete, AdditionBreaks, rank, FirstBroken, AddRefused, AddingRefuses, RefusedAddKeeps, AddingSucceeds, EveryAdd, AddingInDigits}
 use Rattle.ultra_building.specs.AddingRefusals.{AdditionBreaks.full, AdditionBreaks.first, AdditionBreaks.second, AdditionBreaks.later, AdditionBreaks.repeat, AdditionBreaks.split}
 use Rattle.ultra_building.specs.AddingRefusals.{AdditionBreaks.unformed, AdditionBreaks.incomplete, AdditionBreaks.value, AdditionBreaks.text, AdditionBreaks.range, AdditionBreaks.order, AdditionBreaks.past}
 use Rattle.ultra_building.specs.AddingRefusals.{AddRefused.reading, AddRefused.adding}
@@ -289,3 +290,22 @@ refused-add-keeps b ok given r e = go (placement b (typeOf given) (givenFault ok
 pub adding-succeeds : AddingSucceeds
 adding-succeeds b ok given m y =
     (λ e. to-succeed b ok given m y (e .0) (e .1), λ d. let e = is-done b ok given m d in (ap numberOf e, ap valueOf e))
+
+-- ---- from the statements alone
+every : AddingRefuses → RefusedAddKeeps → AddingSucceeds → EveryAdd
+every refuse keep succeed b ok given y = go (addedMembers b ok given .0) refl
+  where
+    go : (a : Answer) → addedMembers b ok given .0 ≡ a
+        → ((r : Refusal) × AddRefused b ok given (numberOf (Refused r)) (valueOf (Refused r)) × (addedMembers b ok given ≡ (Refused r, b)))
+        ⊎ ((c : Context) × HeldBy 0 b c × NoneBreaks (AdditionBreaks (roomOf b) c ok given) × (addedMembers b ok given .0 ≡ Done (used c + writtenSize given)))
+    go (Refused r) e = inl (r, refuse b ok given r y .0 e, pair≡ e (keep b ok given r e))
+    go (Done n) e =
+        let s = succeed b ok given n y .0 (ap numberOf e, ap valueOf e) in
+        inr (s .0, s .1, s .2, e ∙ ap Done (s .3))
+
+pub every-add : EveryAdd
+every-add = every adding-refuses refused-add-keeps adding-succeeds
+
+pub adding-in-digits : AddingInDigits
+unfolding placementFault placeFault placed occurs
+adding-in-digits = record { seventeen = refl; oneFewer = refl; nine = refl; ten = refl; eleven = refl; thirteen = refl; eighteen = refl; fits = refl }

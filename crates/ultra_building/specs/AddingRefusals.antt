@@ -2,13 +2,14 @@
 -- number, and leaves the buffer as it was; where it gives none it answers the new used length. They speak of members given, formed or
 -- not (`addedMembers`), and so of the calls toward C; an add of a record is one of its members (`added`). For 13 to 16 the conditions are
 -- the tests of Members on the members, which the rules ask too. Proved in proofs/AddingRefusals.antt: `adding-refuses`,
--- `refused-add-keeps`, `adding-succeeds`. Of a buffer only that its elements are bytes is assumed.
+-- `refused-add-keeps`, `adding-succeeds`, and from these three `every-add`; `adding-in-digits`. Of a buffer only that its elements are bytes is assumed.
 -- Assumes nothing else.
 use Prim.Native.Nat.{ℕ, _+_, _-_, _≤_, _<_}
 use mathlib.Core.Path.{_≡_}
 use mathlib.Core.Bool.{Bool, true, false}
 use mathlib.Core.Logic.{_↔_, _⊎_}
-use mathlib.Core.List.{List}
+use mathlib.Core.List.{List, [], _∷_}
+use lib.ListN.{getD, replicate}
 use lib.Dec.{eqb}
 use Rattle.byte_layout.specs.Stored.{Bytes}
 use Rattle.ultra_format.specs.Refusals.{PLACE, REPEAT, SPLIT, FORM, VALUE, TEXT, RANGE, ORDER, FULL, ROOM}
@@ -21,10 +22,10 @@ use Rattle.ultra_format.specs.Places.{single, repeatable}
 use Rattle.ultra_format.specs.Decoding.{pick}
 use Rattle.ultra_format.specs.Plain.{writtenSize}
 use Rattle.ultra_format.specs.declared.Refusal.{Refusal}
-use Rattle.ultra_format.specs.declared.Answer.the-variants.{Refused}
+use Rattle.ultra_format.specs.declared.Answer.the-variants.{Done, Refused}
 use Rattle.ultra_acceptance.specs.Acceptance.{HeldBy}
 use Rattle.ultra_acceptance.specs.Refusing.{NoneBreaks, Refuses}
-use Rattle.ultra_building.specs.Building.{addedMembers}
+use Rattle.ultra_building.specs.Building.{placementFault, addedMembers}
 
 -- ---- the table
 -- "occurred earlier": a type, among the attributes of a context
@@ -93,3 +94,26 @@ AddingSucceeds =
     (b : List ℕ) (formed : Bool) (given : Body) (m : ℕ) → Bytes b
     → ((numberOf (addedMembers b formed given .0) ≡ 0) × (valueOf (addedMembers b formed given .0) ≡ m))
     ↔ ((c : Context) × HeldBy 0 b c × NoneBreaks (AdditionBreaks (roomOf b) c formed given) × (m ≡ used c + writtenSize given))
+
+-- from the three: every add to a buffer of bytes is refused by the table and changes nothing, or breaks no row and answers the new used
+-- length. One of them that asked for more would not give it.
+abbrev pub EveryAdd : Type 0
+EveryAdd =
+    (b : List ℕ) (formed : Bool) (given : Body) → ((i : ℕ) → getD b i 0 < 256)
+    → ((r : Refusal) × AddRefused b formed given (numberOf (Refused r)) (valueOf (Refused r)) × (addedMembers b formed given ≡ (Refused r, b)))
+    ⊎ ((c : Context) × HeldBy 0 b c × NoneBreaks (AdditionBreaks (roomOf b) c formed given) × (addedMembers b formed given .0 ≡ Done (used c + writtenSize given)))
+
+-- "17, 9, 10, 11, 12, 13, 14, 15, 16, 18", in digits: after attributes of these types (the nearest first), with a room, a used length, a
+-- type, a fault of 12 to 16 or none, and a size
+pub record AddingInDigits : Type 0 where
+  -- to 1,024 attributes a platform (9), malformed (12), past the room (18); to one fewer one more may come
+  pub seventeen : placementFault (replicate 1024 7) 65536 65536 1 12 88 ≡ 17
+  pub oneFewer : placementFault (replicate 1023 7) 65536 8192 7 0 96 ≡ 0
+  -- each malformed and past the room too
+  pub nine : placementFault [] 65536 65536 3 12 8 ≡ 9
+  pub ten : placementFault (4 ∷ 3 ∷ 2 ∷ 1 ∷ []) 527 432 3 12 96 ≡ 10
+  pub eleven : placementFault (3 ∷ 4 ∷ 2 ∷ 1 ∷ []) 527 432 4 12 96 ≡ 11
+  -- 96 bytes from 432 on end past 527, and not past 528
+  pub thirteen : placementFault (2 ∷ 1 ∷ []) 527 432 4 13 96 ≡ 13
+  pub eighteen : placementFault (2 ∷ 1 ∷ []) 527 432 4 0 96 ≡ 18
+  pub fits : placementFault (2 ∷ 1 ∷ []) 528 432 4 0 96 ≡ 0
