@@ -36,7 +36,7 @@ use Rattle.ultra_acceptance.proofs.Least.{Chain, ends, try, past as beyond, lin
 use Rattle.ultra_acceptance.proofs.Refusing.{refuses-exactly}
 use Rattle.ultra_acceptance.proofs.Rows.{Misplaced, Earlier, Repeated, Parted, place-chain}
 use Rattle.ultra_building.specs.Building.{placementFault, placement, addedAt, addedMembers}
-use Rattle.ultra_building.specs.AddingRefusals.{Occurs, Incomplete, AdditionBreaks, rank, FirstBroken, AddRefused, AddingRefuses, RefusedAddKeeps, AddingSucceeds, EveryAdd, AddingInDigits}
+use Rattle.ultra_building.specs.AddingRefusals.{Occurs, Incomplete, AdditionBreaks, rank, FirstBroken, AddRefused, AddingRefuses, RefusedAddKeeps, AddingSucceeds, EveryAdd, OneAnswer, AddingInDigits}
 use Rattle.ultra_building.specs.AddingRefusals.{AdditionBreaks.full, AdditionBreaks.first, AdditionBreaks.second, AdditionBreaks.later, AdditionBreaks.repeat, AdditionBreaks.split}
 use Rattle.ultra_building.specs.AddingRefusals.{AdditionBreaks.unformed, AdditionBreaks.incomplete, AdditionBreaks.value, AdditionBreaks.text, AdditionBreaks.range, AdditionBreaks.order, AdditionBreaks.past}
 use Rattle.ultra_building.specs.AddingRefusals.{AddRefused.reading, AddRefused.adding}
@@ -303,8 +303,23 @@ every refuse keep succeed b ok given y = go (addedMembers b ok given .0) refl
         let s = succeed b ok given n y .0 (ap numberOf e, ap valueOf e) in
         inr (s .0, s .1, s .2, e ∙ ap Done (s .3))
 
+-- no row has the number 0
+numbered : (b : List ℕ) (ok : Bool) (given : Body) (n o : ℕ) → AddRefused b ok given n o → n ≡ 0 → ⊥
+numbered b ok given n o (reading p r) z = used-number 0 b (refusal n p) (refuses-exactly 0 b (refusal n p) .1 r) z
+numbered b ok given n o (adding c h f) z = omega (arith, in-adding (roomOf b) c ok given n (f .0) .0)
+
+one : AddingRefuses → AddingSucceeds → OneAnswer
+one refuse succeed b ok given r y h =
+    let e = refuse b ok given r y .1 h in (
+      λ s k. let w : Refused s ≡ Refused r = sym (refuse b ok given s y .1 k) ∙ e in cc,
+      λ c g n. numbered b ok given (r .number) (r .offset) h (sym (ap numberOf e) ∙ succeed b ok given (used c + writtenSize given) y .1 (c, g, n, refl) .0),
+    )
+
 pub every-add : EveryAdd
 every-add = every adding-refuses refused-add-keeps adding-succeeds
+
+pub one-answer : OneAnswer
+one-answer = one adding-refuses adding-succeeds
 
 pub adding-in-digits : AddingInDigits
 unfolding placementFault placeFault placed occurs

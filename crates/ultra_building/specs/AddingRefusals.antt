@@ -2,7 +2,8 @@
 -- number, and leaves the buffer as it was; where it gives none it answers the new used length. They speak of members given, formed or
 -- not (`addedMembers`), and so of the calls toward C; an add of a record is one of its members (`added`). For 13 to 16 the conditions are
 -- the tests of Members on the members, which the rules ask too. Proved in proofs/AddingRefusals.antt: `adding-refuses`,
--- `refused-add-keeps`, `adding-succeeds`, and from these three `every-add`; `adding-in-digits`. Of a buffer only that its elements are bytes is assumed.
+-- `refused-add-keeps`, `adding-succeeds`, from these three `every-add` and `one-answer`, and `adding-in-digits`. Of a buffer only
+-- that its elements are bytes is assumed.
 -- Assumes nothing else.
 use Prim.Native.Nat.{ℕ, _+_, _-_, _≤_, _<_}
 use mathlib.Core.Path.{_≡_}
@@ -102,6 +103,13 @@ EveryAdd =
     (b : List ℕ) (formed : Bool) (given : Body) → ((i : ℕ) → getD b i 0 < 256)
     → ((r : Refusal) × AddRefused b formed given (numberOf (Refused r)) (valueOf (Refused r)) × (addedMembers b formed given ≡ (Refused r, b)))
     ⊎ ((c : Context) × HeldBy 0 b c × NoneBreaks (AdditionBreaks (roomOf b) c formed given) × (addedMembers b formed given .0 ≡ Done (used c + writtenSize given)))
+
+-- and only one of these: the table gives an add one answer
+abbrev pub OneAnswer : Type 0
+OneAnswer =
+    (b : List ℕ) (formed : Bool) (given : Body) (r : Refusal) → ((i : ℕ) → getD b i 0 < 256) → AddRefused b formed given (numberOf (Refused r)) (valueOf (Refused r))
+    → ((s : Refusal) → AddRefused b formed given (numberOf (Refused s)) (valueOf (Refused s)) → s ≡ r)
+    × ((c : Context) → HeldBy 0 b c → NoneBreaks (AdditionBreaks (roomOf b) c formed given) → ⊥)
 
 -- "17, 9, 10, 11, 12, 13, 14, 15, 16, 18", in digits: after attributes of these types (the nearest first), with a room, a used length, a
 -- type, a fault of 12 to 16 or none, and a size
