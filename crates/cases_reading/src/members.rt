@@ -43,6 +43,7 @@ fn kernels(buf: [u8; 1024]) {
     number(b"kernel of 328 bytes", buf, 96, 0x0000_0148_0000_0002);
     number(b"kernel at physical 2048", buf, 104, 2048);
     number(b"kernel at physical 4096", buf, 104, 4096);
+    number(b"kernel at physical 4097", buf, 104, 4097);
     number(b"kernel at virtual 2048", buf, 112, 2048);
     number(b"kernel at virtual 4096", buf, 112, 4096);
     number(b"kernel of size 2048", buf, 120, 2048);
@@ -73,6 +74,7 @@ fn framebuffers(buf: [u8; 1024]) {
     number(b"format 1, 24 bits", buf, 560, 0x0001_0018_0000_0004);
     number(b"format 2, 32 bits", buf, 560, 0x0002_0020_0000_0004);
     number(b"format 3, 24 bits", buf, 560, 0x0003_0018_0000_0004);
+    number(b"format 3, 33 bits", buf, 560, 0x0003_0021_0000_0008);
     number(b"format 4, 32 bits", buf, 560, 0x0004_0020_0000_0004);
     number(b"format 5, 24 bits", buf, 560, 0x0005_0018_0000_0004);
     number(b"format 5, 32 bits", buf, 560, 0x0005_0020_0000_0004);
