@@ -1,6 +1,6 @@
 -- Demand 3 does not speak of nothing: a buffer that holds a context with every type of attribute, what the calls answer of it, written
 -- out by hand from document 01, and a second buffer that differs from it in every silent byte of its used length and ends there; each
--- is the second of the other.
+-- may be the second buffer of the other.
 -- (Examples, of crate ultra_format, has the context and its bytes.) And a platform of 56 bytes is answered without late members. Proved
 -- in proofs/Witness.antt: `witnessed`.
 -- Assumes nothing.
