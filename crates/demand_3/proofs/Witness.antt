@@ -124,6 +124,7 @@ witnessed =
       holds = holds;
       types = seven (λ (i : ℕ). typeAt everyType i ≡ suc i) refl refl refl refl refl refl refl;
       whole = is .whole;
+      nothingBeside = λ r. refl;
       each = answers;
       past = is .past;
       entries = entries;

@@ -17,6 +17,7 @@ use Rattle.ultra_format.specs.Layouts.{Silent, written}
 use Rattle.ultra_format.specs.Decoding.{platformAt}
 use Rattle.ultra_format.specs.Records.{platformRecord, blankRecords}
 use Rattle.ultra_format.specs.Examples.{zeros, everyType, everyTypeBytes}
+use Rattle.ultra_format.specs.declared.Answer.{Answer}
 use Rattle.ultra_format.specs.declared.Answer.the-variants.{Done}
 use Rattle.ultra_format.specs.declared.records.Records.{Records}
 use Rattle.ultra_format.specs.declared.records.OptionalU64.the-variants as wide
@@ -89,6 +90,38 @@ everyFramebufferRecord =
       framebuffer = record { width = 1024; height = 768; pitch = 4096; bpp = 32; format = 3; address = 18446744073706405888 };
     }
 
+-- a record of nothing but zeros and absent members, of each type
+abbrev pub nothing : Records
+nothing =
+    record {
+      platform =
+          record {
+            kind = 0;
+            «loader_major» = 0;
+            «loader_minor» = 0;
+            name = zeros 32;
+            rsdp = 0;
+            «higher_half_base» = wide.Absent;
+            depth = narrow.Absent;
+            dtb = wide.Absent;
+            smbios = wide.Absent;
+          };
+      kernel =
+          record {
+            «physical_base» = 0;
+            «virtual_base» = 0;
+            size = 0;
+            «partition_type» = 0;
+            «disk_guid» = zeros 16;
+            «partition_guid» = zeros 16;
+            «disk_index» = 0;
+            «partition_index» = 0;
+            path = zeros 256;
+          };
+      «module» = record { kind = 0; name = zeros 64; address = 0; size = 0 };
+      framebuffer = record { width = 0; height = 0; pitch = 0; bpp = 0; format = 0; address = 0 };
+    }
+
 -- ---- the answers: start, type, size, records, part
 abbrev pub theAnswer : ℕ → ℕ → ℕ → Records → Part → AttributeAnswer
 theAnswer o t s rs p = record { answer = Done o; header = record { kind = t; start = o; size = s }; records = rs; part = p }
@@ -127,6 +160,8 @@ pub record Witnessed : Type 0 where
   -- types 1 to 7, in this order
   pub types : (i : ℕ) → i < 7 → typeAt everyType i ≡ suc i
   pub whole : readingOf everyTypeBytes ≡ Accepted (record { major = 2; minor = 7 }) 688
+  -- what stands beside a refusal, and in the records of other types
+  pub nothingBeside : (r : Answer) → unanswered r ≡ record { answer = r; header = record { kind = 0; start = 0; size = 0 }; records = nothing; part = record { start = 0; length = 0 } }
   pub each : (i : ℕ) → i < 7 → attributeAnswer everyTypeBytes i ≡ getD everyAnswers i (unanswered (refused COUNT 0))
   pub past : (i : ℕ) → 7 ≤ i → attributeAnswer everyTypeBytes i ≡ unanswered (refused COUNT 688)
   pub entries : partAt everyTypeBytes 2 ≡ everyEntries
