@@ -40,7 +40,7 @@ use Rattle.demand_2.specs.CallsFromC.{CallFromC, CallFromC.ultraRead, Ca
 use Rattle.demand_2.specs.Arguments.{AdditionTyped, Among, AllTyped}
 use Rattle.demand_2.specs.Model.{attributesGiven, contextGiven, typesBehind, giving, listAfterAll, replyTo, anyReply}
 use Rattle.demand_2.specs.Demand2.{Undetermined, ReadsBack, Appended, adds, bufferNow, listNow}
-use Rattle.demand_2.specs.Witness.{sixAdditions, everyCall, ones, absentPlatform, widestCalls, Built, EveryKind, AnyArguments, two, TwoAreEnough, otherHead}
+use Rattle.demand_2.specs.Witness.{sixAdditions, everyCall, ones, absentPlatform, widestCalls, Built, EveryKind, AnyArguments, one, two, TwoAreEnough, otherHead}
 use Rattle.demand_2.proofs.Arguments.{EachTyped, each-typed, typed-none, typed-first, typed-rest, typed-more}
 use Rattle.demand_2.proofs.Additions.{given-type}
 use Rattle.demand_2.proofs.Following.{length-given}
@@ -169,8 +169,37 @@ module _ (w : AllTyped (adds sixAdditions)) (b : List ℕ) (e : length b ≡ 432
   two-through =
       subst (λ (gs : List Addition). StepsThrough (bufferNow b (adds two)) (contextGiven gs)) two-now (demand-2 .steps b (adds two) begun-two two-typed (rw two-now (omega arith)))
 
+-- one attribute
+module _ (w : AllTyped (adds sixAdditions)) (b : List ℕ) (e : length b ≡ 104) where
+  one-typed : AllTyped (adds one)
+  unfolding EachTyped adds Among
+  one-typed = each-typed (adds one) (here w _ (inl refl), tt)
+
+  one-listed : listAfterAll 104 (adds one) [] ≡ one
+  unfolding listAfterAll adds attributesGiven typesBehind placementFault placeFault placed occurs bodyGiven trimmed writtenSize givenFault bodyFault sizeSuits values texts asciiText every ranges ordered total
+  one-listed = refl
+
+  one-now : listNow b (adds one) ≡ one
+  one-now = let r : roomOf b ≡ 104 = omega arith in ap (λ (n : ℕ). listAfterAll n (adds one) []) r ∙ one-listed
+
+  one-replied : anyReply 104 (fromC (ultraStep 0 96)) one ≡ number 17179869184
+  unfolding replyTo attributesGiven
+  one-replied = refl
+
+  one-counted : count (contextGiven one) ≡ 1
+  unfolding attributesGiven
+  one-counted = refl
+
+  one-is-not : runAny (fromC (ultraStep 0 96)) (bufferNow b (adds one)) .0 ≡ number 17179869184
+  one-is-not =
+      let r : roomOf b ≡ 104 = omega arith in
+      let n : count (contextGiven (listNow b (adds one))) ≡ 1 = ap (λ (gs : List Addition). count (contextGiven gs)) one-now ∙ one-counted in
+      demand-2 .answers b (adds one) (fromC (ultraStep 0 96)) (demand-2 .begins b (omega arith) .0) one-typed (λ u. omega (arith, n, u .2))
+      ∙ (λ i. anyReply (r i) (fromC (ultraStep 0 96)) (one-now i))
+      ∙ one-replied
+
 pub two-are-enough : AllTyped (adds sixAdditions) → TwoAreEnough
-two-are-enough w = record { back = two-back w; through = two-through w }
+two-are-enough w = record { oneIsNot = one-is-not w; back = two-back w; through = two-through w }
 
 -- ---- heads
 pub head : (b : List ℕ) → length b ≡ 8 → begun b ≡ (Done 8, 1 ∷ zeros 7)

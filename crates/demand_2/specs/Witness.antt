@@ -216,7 +216,12 @@ pub record AnyArguments : Type 0 where
 abbrev pub two : List Addition
 two = take 2 sixAdditions
 
+-- with one, a step is 4 wherever its cursor points, also at silent bytes past the used length
+abbrev pub one : List Addition
+one = take 1 sixAdditions
+
 pub record TwoAreEnough : Type 0 where
+  pub oneIsNot : (b : List ℕ) → length b ≡ 104 → runAny (fromC (ultraStep 0 96)) (bufferNow b (adds one)) .0 ≡ number 17179869184
   pub back : (b : List ℕ) → length b ≡ 432 → ReadsBack (bufferNow b (adds two)) two
   pub through : (b : List ℕ) → length b ≡ 432 → StepsThrough (bufferNow b (adds two)) (contextGiven two)
 
