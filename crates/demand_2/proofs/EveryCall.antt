@@ -35,12 +35,12 @@ use Rattle.ultra_building.specs.Building.{begun, placementFault, placement, add
 use Rattle.ultra_format.specs.declared.Answer.the-variants.{Done}
 use Rattle.demand_3.specs.Witness.{everyPlatformRecord, everyKernelRecord, everyEntries, everyLine}
 use Rattle.ultra_acceptance.specs.Steps.{StepsThrough}
-use Rattle.demand_2.specs.Calls.{Call.add, Call.read, Call.step, Reply.number}
-use Rattle.demand_2.specs.CallsFromC.{CallFromC, CallFromC.ultraRead, CallFromC.ultraStep, CallFromC.ultraAddMap, AnyCall, AnyCall.fromRattle, AnyCall.fromC, inRattle, runAny, after}
+use Rattle.demand_2.specs.Calls.{membersBody, Reply, Call.add, Call.read, Call.step, Reply.number}
+use Rattle.demand_2.specs.CallsFromC.{CallFromC, CallFromC.ultraRead, CallFromC.ultraStep, CallFromC.ultraAddMap, AnyCall, AnyCall.fromRattle, AnyCall.fromC, asked, inRattle, runAny, after}
 use Rattle.demand_2.specs.Arguments.{AdditionTyped, Among, AllTyped}
 use Rattle.demand_2.specs.Model.{attributesGiven, contextGiven, typesBehind, giving, listAfterAll, replyTo, anyReply}
 use Rattle.demand_2.specs.Demand2.{Undetermined, ReadsBack, Appended, adds, bufferNow, listNow}
-use Rattle.demand_2.specs.Witness.{sixAdditions, everyCall, ones, absentPlatform, widestCalls, Built, EveryKind, AnyArguments, one, two, TwoAreEnough, otherHead}
+use Rattle.demand_2.specs.Witness.{sixAdditions, everyCall, ones, absentPlatform, widestCalls, Built, EveryKind, FromCToo, AnyArguments, one, two, TwoAreEnough, otherHead}
 use Rattle.demand_2.proofs.Arguments.{EachTyped, each-typed, typed-none, typed-first, typed-rest, typed-more}
 use Rattle.demand_2.proofs.Additions.{given-type}
 use Rattle.demand_2.proofs.Following.{length-given}
@@ -275,3 +275,11 @@ module _ (b : List ℕ) (ks : List AnyCall) (e : begun b .0 ≡ Done 8) (y : All
             ∙ silent-zero (cells (layout built)) i s;
         types = λ i h. subst (λ (a : Attribute). typeOf (a .body) < 7) (sym (given i h)) (given-type (getD (listNow b ks) i (addCommandLine [])) .2);
       }
+
+-- ---- from C, and members one by one
+pub from-c : FromCToo
+from-c =
+    record {
+      keeps = λ b k a e n. ap (λ (r : Reply × List ℕ). r .1) (demand-2 .crosses b k) ∙ demand-2 .refusals b (asked k) a e n;
+      asRecord = λ b m y n. ⊎-elim (λ r. absurd (n (ap (λ (x : Reply × List ℕ). x .1) (r .1)))) (λ r. (giving (membersBody m), r .1, r .2)) (demand-2 .members b m y);
+    }

@@ -11,13 +11,14 @@ use mathlib.Core.Path.{_≡_}
 use mathlib.Core.List.{List, [], _∷_, _++_}
 use lib.ListN.{length, take, getD, replicate}
 use Rattle.ultra_format.specs.Refusals.{SHORT}
-use Rattle.ultra_format.specs.Answers.{refused}
+use Rattle.ultra_format.specs.Answers.{refused, numberOf}
 use Rattle.ultra_format.specs.Decoding.{contextOf}
 use Rattle.ultra_format.specs.Contexts.{Context}
 use Rattle.ultra_format.specs.Plain.{Plain}
 use Rattle.ultra_format.specs.Examples.{zeros, junk, listed, listedBytes, sixTypes, sixTypesBytes}
-use Rattle.ultra_format.specs.Additions.{Addition}
+use Rattle.ultra_format.specs.Additions.{Addition, bodyGiven}
 use Rattle.ultra_format.specs.Additions.{Addition.addPlatform, Addition.addKernel, Addition.addMap, Addition.addModule, Addition.addCommandLine, Addition.addFramebuffer}
+use Rattle.ultra_format.specs.declared.Answer.{Answer}
 use Rattle.ultra_format.specs.declared.Answer.the-variants.{Done}
 use Rattle.ultra_format.specs.declared.records.PlatformRecord.{PlatformRecord}
 use Rattle.ultra_format.specs.declared.records.OptionalU64.the-variants as wide
@@ -27,14 +28,14 @@ use Rattle.ultra_building.specs.Building.{begun, added}
 use Rattle.demand_3.specs.Demand3.{Held}
 use Rattle.demand_3.specs.Witness.{everyPlatformRecord, everyKernelRecord, everyModuleRecord, everyFramebufferRecord, everyEntries, everyLine}
 use Rattle.ultra_acceptance.specs.Steps.{StepsThrough}
-use Rattle.demand_2.specs.Calls.{Members}
+use Rattle.demand_2.specs.Calls.{Members, membersBody, run, Reply.answer}
 use Rattle.demand_2.specs.Calls.{Members.platformMembers, Members.kernelMembers, Members.mapMembers, Members.moduleMembers, Reply.number}
 use Rattle.demand_2.specs.Calls.{Call.begin, Call.add, Call.addMembers, Call.read, Call.step, Call.askAttribute, Call.askStart, Call.askPart, Call.copyMap, Call.copyMapBytes, Call.askLine, Call.locateLine, Call.askModule, Call.list, Call.askListingLength}
-use Rattle.demand_2.specs.CallsFromC.{AnyCall, inRattle, runAny, after, replies}
+use Rattle.demand_2.specs.CallsFromC.{CallFromC, runFromC, asked, AnyCall, inRattle, runAny, after, replies}
 use Rattle.demand_2.specs.CallsFromC.{AnyCall.fromRattle, AnyCall.fromC}
 use Rattle.demand_2.specs.CallsFromC.{CallFromC.ultraRead, CallFromC.ultraStep, CallFromC.ultraAttribute, CallFromC.ultraCopyMap, CallFromC.ultraCommandLine, CallFromC.ultraModuleHolding, CallFromC.ultraBegin}
 use Rattle.demand_2.specs.CallsFromC.{CallFromC.ultraAddPlatform, CallFromC.ultraAddKernel, CallFromC.ultraAddMap, CallFromC.ultraAddModule, CallFromC.ultraAddCommandLine, CallFromC.ultraAddFramebuffer}
-use Rattle.demand_2.specs.Arguments.{AllTyped}
+use Rattle.demand_2.specs.Arguments.{MembersTyped, AllTyped}
 use Rattle.demand_2.specs.Model.{contextGiven, listAfterAll}
 use Rattle.demand_2.specs.Demand2.{ReadsBack, adds, AllSucceeded, Appended, bufferNow, listNow}
 
@@ -225,6 +226,11 @@ pub record TwoAreEnough : Type 0 where
   pub back : (b : List ℕ) → length b ≡ 432 → ReadsBack (bufferNow b (adds two)) two
   pub through : (b : List ℕ) → length b ≡ 432 → StepsThrough (bufferNow b (adds two)) (contextGiven two)
 
+-- a call from C that is refused changes nothing, in any buffer; and an add of members that changes a buffer is the add of a record
+pub record FromCToo : Type 0 where
+  pub keeps : (b : List ℕ) (k : CallFromC) (a : Answer) → run (asked k) b .0 ≡ answer a → (numberOf a ≡ 0 → ⊥) → runFromC k b .1 ≡ b
+  pub asRecord : (b : List ℕ) (m : Members) → MembersTyped m → (run (addMembers m) b .1 ≡ b → ⊥) → (g : Addition) × (bodyGiven g ≡ membersBody m) × (run (addMembers m) b ≡ run (add g) b)
+
 -- a head of version 2.7 that counts nothing, its reserved bytes 165, and 93 bytes after it
 abbrev pub otherHead : List ℕ
 otherHead = 2 ∷ 7 ∷ 165 ∷ 165 ∷ 0 ∷ 0 ∷ 0 ∷ 0 ∷ junk 93
@@ -236,6 +242,7 @@ pub record Witnessed : Type 0 where
   pub six : Built sixAdditions sixTypes sixTypesBytes 640
   pub every : EveryKind
   pub widest : AllTyped widestCalls
+  pub fromC : FromCToo
   pub arguments : AnyArguments
   pub enough : TwoAreEnough
   -- whatever was built is plain
