@@ -40,7 +40,7 @@ use Rattle.demand_2.specs.CallsFromC.{CallFromC, CallFromC.ultraRead, Ca
 use Rattle.demand_2.specs.Arguments.{AdditionTyped, Among, AllTyped}
 use Rattle.demand_2.specs.Model.{attributesGiven, contextGiven, typesBehind, giving, listAfterAll, replyTo, anyReply}
 use Rattle.demand_2.specs.Demand2.{Undetermined, ReadsBack, Appended, adds, bufferNow, listNow}
-use Rattle.demand_2.specs.Witness.{sixAdditions, everyCall, ones, absentPlatform, widestCalls, Built, EveryKind, FromCToo, AnyArguments, one, two, TwoAreEnough, otherHead}
+use Rattle.demand_2.specs.Witness.{sixAdditions, everyCall, ones, absentPlatform, widestCalls, Built, EveryKind, FromCAndMembers, AnyArguments, one, two, TwoAreEnough, otherHead}
 use Rattle.demand_2.proofs.Arguments.{EachTyped, each-typed, typed-none, typed-first, typed-rest, typed-more}
 use Rattle.demand_2.proofs.Additions.{given-type}
 use Rattle.demand_2.proofs.Following.{length-given}
@@ -277,8 +277,8 @@ module _ (b : List ℕ) (ks : List AnyCall) (e : begun b .0 ≡ Done 8) (y : All
       }
 
 -- ---- from C, and members one by one
-pub from-c : FromCToo
-from-c =
+pub from-c-and-members : FromCAndMembers
+from-c-and-members =
     record {
       keeps = λ b k a e n. ap (λ (r : Reply × List ℕ). r .1) (demand-2 .crosses b k) ∙ demand-2 .refusals b (asked k) a e n;
       asRecord = λ b m y n. ⊎-elim (λ r. absurd (n (ap (λ (x : Reply × List ℕ). x .1) (r .1)))) (λ r. (giving (membersBody m), r .1, r .2)) (demand-2 .members b m y);

@@ -22,7 +22,7 @@ use Rattle.demand_2.specs.Witness.{listedAdditions, sixAdditions, Built,
 use Rattle.demand_2.proofs.ReadingBack.{record-at}
 use Rattle.demand_2.proofs.Rebuilding.{context-back, typed-back, rebuilt-list}
 use Rattle.demand_2.proofs.Demand2.{demand-2}
-use Rattle.demand_2.proofs.EveryCall.{every-kind, widest, from-c, any-arguments, built-plain, two-are-enough, head, other, other-kept}
+use Rattle.demand_2.proofs.EveryCall.{every-kind, widest, from-c-and-members, any-arguments, built-plain, two-are-enough, head, other, other-kept}
 
 -- the records that are read back of plain bytes build them, in as many bytes as are used
 module _ (bytes : List ℕ) (c : Context) (n : ℕ) (h : Held bytes c) (p : Plain bytes c) (l : length bytes ≡ n) (u : used c ≡ n) where
@@ -81,7 +81,7 @@ witnessed =
       six = six;
       every = every-kind six;
       widest = widest;
-      fromC = from-c;
+      others = from-c-and-members;
       arguments = any-arguments;
       plain = built-plain;
       otherKept = other-kept (six .typed);

@@ -125,25 +125,11 @@ everyCall =
     ∷ fromC (ultraModuleHolding 8589934592)
     ∷ []
 
--- the widest arguments of each add: every number the largest of its width, every byte 255, and texts and GUIDs longer than any field
+-- n bytes of 255
 abbrev pub ones : ℕ → List ℕ
 ones n = replicate n 255
 
--- no late member
-abbrev pub absentPlatform : PlatformRecord
-absentPlatform =
-    record {
-      kind = 2;
-      «loader_major» = 0;
-      «loader_minor» = 0;
-      name = zeros 32;
-      rsdp = 0;
-      «higher_half_base» = wide.Absent;
-      depth = narrow.Absent;
-      dtb = wide.Absent;
-      smbios = wide.Absent;
-    }
-
+-- the widest arguments of each add: every number the largest of its width, every byte 255, and from C texts and GUIDs longer than any field
 abbrev pub widestCalls : List AnyCall
 widestCalls =
     fromRattle (add (addPlatform (record {
@@ -177,6 +163,21 @@ widestCalls =
     ∷ fromC (ultraAddMap (ones 25))
     ∷ fromC (ultraAddModule 4294967295 (ones 300) 18446744073709551615 18446744073709551615)
     ∷ []
+
+-- no late member
+abbrev pub absentPlatform : PlatformRecord
+absentPlatform =
+    record {
+      kind = 2;
+      «loader_major» = 0;
+      «loader_minor» = 0;
+      name = zeros 32;
+      rsdp = 0;
+      «higher_half_base» = wide.Absent;
+      depth = narrow.Absent;
+      dtb = wide.Absent;
+      smbios = wide.Absent;
+    }
 
 -- ---- the witness
 -- the additions give the context, and building it gives the bytes, in n bytes
@@ -227,7 +228,7 @@ pub record TwoAreEnough : Type 0 where
   pub through : (b : List ℕ) → length b ≡ 432 → StepsThrough (bufferNow b (adds two)) (contextGiven two)
 
 -- a call from C that is refused changes nothing, in any buffer; and an add of members that changes a buffer is the add of a record
-pub record FromCToo : Type 0 where
+pub record FromCAndMembers : Type 0 where
   pub keeps : (b : List ℕ) (k : CallFromC) (a : Answer) → run (asked k) b .0 ≡ answer a → (numberOf a ≡ 0 → ⊥) → runFromC k b .1 ≡ b
   pub asRecord : (b : List ℕ) (m : Members) → MembersTyped m → (run (addMembers m) b .1 ≡ b → ⊥) → (g : Addition) × (bodyGiven g ≡ membersBody m) × (run (addMembers m) b ≡ run (add g) b)
 
@@ -242,7 +243,7 @@ pub record Witnessed : Type 0 where
   pub six : Built sixAdditions sixTypes sixTypesBytes 640
   pub every : EveryKind
   pub widest : AllTyped widestCalls
-  pub fromC : FromCToo
+  pub others : FromCAndMembers
   pub arguments : AnyArguments
   pub enough : TwoAreEnough
   -- whatever was built is plain
