@@ -26,7 +26,7 @@ check:
 format:
 	rt fmt
 
-# What no proof replaces: the archive and the program, tested. The gate runs it behind the proofs.
+# What no proof replaces: the archive and the program, tested. The gate runs it after the proofs.
 tests: test-published test-traceability test-list test-samples test-c test-examples test-model compare compare-listings
 
 include tests/tests.mk

@@ -127,7 +127,7 @@ static int take_over(const uint8_t *buf, size_t len)
 
 enum { REFUSED = 1, UNUSABLE = 2 };
 
-/* Of a longer file the bytes behind these would not count. */
+/* Of a longer file the bytes after these would not count. */
 static uint8_t context[ULTRA_ROOM_MAX];
 
 static void print_numbers(const char *key, const uint64_t *numbers, size_t count)

@@ -142,7 +142,7 @@ extern "C" {
 #define ULTRA_KERNEL_PARTITION_INDEX_OFFSET 76 /* u32 */
 #define ULTRA_KERNEL_PATH_OFFSET            80 /* text, in ULTRA_PATH_MAX bytes */
 
-/* Map: its entries, one behind the other; and the members of an entry, from the entry's start. */
+/* Map: its entries, one after the other; and the members of an entry, from the entry's start. */
 #define ULTRA_MAP_ENTRIES_OFFSET       8  /* ULTRA_MAP_ENTRY_SIZE bytes each */
 #define ULTRA_MAP_ENTRY_ADDRESS_OFFSET 0  /* u64 */
 #define ULTRA_MAP_ENTRY_SIZE_OFFSET    8  /* u64 */
@@ -260,7 +260,7 @@ static inline struct ultra_cursor ultra_first_cursor(void)
     return first;
 }
 
-/* The cursor behind the attribute that ultra_step answered at this one: for an answer that is neither the end nor a refusal. */
+/* The cursor after the attribute that ultra_step answered at this one: for an answer that is neither the end nor a refusal. */
 static inline struct ultra_cursor ultra_next_cursor(struct ultra_cursor cursor, uint64_t answer)
 {
     struct ultra_cursor next;
@@ -319,7 +319,7 @@ uint64_t ultra_begin(uint8_t *buf, size_t buf_len);
 /*
  * Adding: what the six calls have in common.
  *
- * Each reads the buffer by all rules but the least count, and adds one attribute behind the last. First a platform, then a
+ * Each reads the buffer by all rules but the least count, and adds one attribute after the last. First a platform, then a
  * kernel, then the others in any order; modules stand together.
  * Success: the new used length. The attribute is written at the old used length, its reserved and unused bytes as zero, and the
  * head's count is raised by one; no other byte changes.
@@ -397,7 +397,7 @@ uint64_t ultra_add_framebuffer(uint8_t *buf, size_t buf_len, uint32_t width, uin
 /*
  * Where the attribute at an index starts; its type, size and members are in the buffer there, each at its ULTRA_.._OFFSET. Of a
  * platform, look at the size before a late member: the higher half base is there from size 64 on, the depth from 72, dtb from 80,
- * smbios from 88. What stands behind a shorter one belongs to the kernel attribute.
+ * smbios from 88. What stands after a shorter one belongs to the kernel attribute.
  * Success: its start.
  * Refusals: those of reading; then ULTRA_COUNT with the used length, for an index at or past the count.
  */
@@ -405,7 +405,7 @@ uint64_t ultra_attribute(const uint8_t *buf, size_t buf_len, uint64_t index);
 
 /*
  * Copies the memory map out: address, size and type of each entry, as little-endian numbers of 8 bytes. Of the output only whole
- * eights count. A map of n entries needs 24 * n bytes; bytes behind those stay as they are. On x86-64 the output can be
+ * eights count. A map of n entries needs 24 * n bytes; bytes after those stay as they are. On x86-64 the output can be
  * an array of structs, as for ultra_add_map: (uint8_t *)array, sizeof array.
  * Success: n, the number of entries.
  * Refusals: those of reading; then, with the used length, ULTRA_ABSENT, and ULTRA_ROOM where the output is too short.

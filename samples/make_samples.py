@@ -70,7 +70,7 @@ def other(kind=7, size=16):
 
 
 def header(kind, size):
-    """A type and a size with nothing behind them, whatever the size says."""
+    """A type and a size with nothing after them, whatever the size says."""
     return struct.pack("<II", kind, size)
 
 
@@ -245,7 +245,7 @@ sample(
     "used=432",
 )
 
-# Short platforms. The bytes behind each are the kernel's, which a reader of absent members would list.
+# Short platforms. The bytes after each are the kernel's, which a reader of absent members would list.
 
 sample(
     "platform_of_48_bytes", "A platform of 48 bytes, which ends before its rsdp.", "12 FORM",
@@ -349,7 +349,7 @@ sample(
 )
 
 sample(
-    "range_one_page_too_long", "A free range that reaches one page into the reserved range behind it.", "seam of two ranges: 16 ORDER",
+    "range_one_page_too_long", "A free range that reaches one page into the reserved range after it.", "seam of two ranges: 16 ORDER",
     both(memory_map((0x400000, 0x101000, 1), (0x500000, PAGE, 2))),
     "refused=16,432",
 )
@@ -367,7 +367,7 @@ sample(
     "used=488",
 )
 
-# Behind the name stands the address, whose first byte is zero: it closes nothing.
+# After the name stands the address, whose first byte is zero: it closes nothing.
 sample(
     "module_name_not_closed", "A module name of 64 bytes, without its closing zero.", "end of a text: 14 TEXT",
     both(module(name=b"0123456789012345678901234567890123456789012345678901234567890123")),
@@ -564,7 +564,7 @@ sample(
 )
 
 sample(
-    "refused_10_repeat", "A second map, behind a command line.", "10 REPEAT",
+    "refused_10_repeat", "A second map, after a command line.", "10 REPEAT",
     both(memory_map((0, PAGE, 1)), command_line(), memory_map((PAGE, PAGE, 1))),
     "refused=10,480",
 )
@@ -666,7 +666,7 @@ sample(
 )
 
 sample(
-    "refused_16_order", "An entry of size 0 behind one that ends at 2^64, a sum that wraps to 0.", "16 ORDER",
+    "refused_16_order", "An entry of size 0 after one that ends at 2^64, a sum that wraps to 0.", "16 ORDER",
     both(memory_map((TOP - PAGE, PAGE, 1), (TOP - 1, 0, 1))),
     "refused=16,432",
 )
@@ -674,7 +674,7 @@ sample(
 # Which refusal is given where two could be.
 
 sample(
-    "attribute_before_number", "A map out of order, and no byte left for the attribute behind it: the earlier attribute's refusal.",
+    "attribute_before_number", "A map out of order, and no byte left for the attribute after it: the earlier attribute's refusal.",
     "16 ORDER before 5 HEADER",
     both(memory_map((0, PAGE + 1, 1), (PAGE, 1, 1)), count=4),
     "refused=16,432",

@@ -1,4 +1,4 @@
-# The examples in C: compiled as a user would, run, and what they make compared. The Makefile at the root includes this behind
+# The examples in C: compiled as a user would, run, and what they make compared. The Makefile at the root includes this after
 # tests.mk; paths are from there.
 #
 #   make test-examples                the loader's context is document 01's, the kernel prints what it should of it and of one with
@@ -31,7 +31,7 @@ test-examples: $(EXAMPLES_OUT)/loader $(EXAMPLES_OUT)/kernel
 	$(EXAMPLES_OUT)/loader $(EXAMPLES_OUT)/refused.bin 0x300001 2>$(EXAMPLES_OUT)/refused.out
 	echo 'loader: labels refused=13,480' | diff - $(EXAMPLES_OUT)/refused.out
 	cmp $(EXAMPLES_OUT)/refused.bin samples/listing.bin
-	@# Cut 4 bytes behind the start of its second attribute, the context is refused (5) there, and the kernel stops with status 1.
+	@# Cut 4 bytes after the start of its second attribute, the context is refused (5) there, and the kernel stops with status 1.
 	head -c 100 $(EXAMPLES_OUT)/context.bin >$(EXAMPLES_OUT)/cut.bin
 	$(EXAMPLES_OUT)/kernel $(EXAMPLES_OUT)/cut.bin >$(EXAMPLES_OUT)/cut.out; test $$? -eq 1
 	echo 'refused=5,96' | diff - $(EXAMPLES_OUT)/cut.out

@@ -337,7 +337,7 @@ class Function:
         return set()
 
     def follow(self, instruction, state, after, all_bases):
-        """The state behind an instruction, and which instructions can come next."""
+        """The state after an instruction, and which instructions can come next."""
         name = instruction.name
         if name in ("ret", "retq"):
             if instruction.operands:

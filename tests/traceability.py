@@ -32,7 +32,7 @@ ITEM = re.compile(r"`([^`]*)`")
 
 
 def split_cells(line):
-    """The cells of a row; a | in backticks or behind a backslash divides nothing."""
+    """The cells of a row; a | in backticks or after a backslash divides nothing."""
     parts = re.split(r"(`[^`]*`|\\\||\|)", line.strip())
     cells, cell = [], ""
     for part in parts:
@@ -75,7 +75,7 @@ def sentence_of(cell):
 
 
 def block(text, opening):
-    """The lines behind the one that the expression finds, as far as they are further in than it."""
+    """The lines after the one that the expression finds, as far as they are further in than it."""
     lines = text.splitlines()
     for at, line in enumerate(lines):
         if re.match(opening, line):
@@ -213,7 +213,7 @@ def table_problems(root, lines):
 
 
 def place_of(sentence, document):
-    """Where the pieces of a sentence stand in a document, one behind the other, or None."""
+    """Where the pieces of a sentence stand in a document, one after the other, or None."""
     start, at = None, 0
     for piece in sentence.split(" .. "):
         found_at = document.find(piece, at)

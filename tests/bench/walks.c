@@ -125,7 +125,7 @@ uint64_t walk_begin(uint8_t *buf)
     return sizeof(*context);
 }
 
-/* Takes the place behind the last attribute. */
+/* Takes the place after the last attribute. */
 static void *append(uint8_t *buf, uint32_t type, uint32_t size)
 {
     struct ultra_boot_context *context = (struct ultra_boot_context *)buf;
@@ -140,7 +140,7 @@ static void *append(uint8_t *buf, uint32_t type, uint32_t size)
     return at;
 }
 
-static uint64_t used_behind(const uint8_t *buf, const struct ultra_attribute_header *last)
+static uint64_t used_after(const uint8_t *buf, const struct ultra_attribute_header *last)
 {
     return (uint64_t)((const uint8_t *)ULTRA_NEXT_ATTRIBUTE(last) - buf);
 }
@@ -166,7 +166,7 @@ uint64_t walk_add_platform(uint8_t *buf, uint32_t type, uint16_t loader_major, u
     memset(at->reserved, 0, sizeof(at->reserved));
     at->dtb_address = dtb;
     at->smbios_address = smbios;
-    return used_behind(buf, &at->header);
+    return used_after(buf, &at->header);
 }
 
 uint64_t walk_add_kernel(uint8_t *buf, uint64_t physical_base, uint64_t virtual_base, uint64_t size, uint64_t partition_type,
@@ -184,7 +184,7 @@ uint64_t walk_add_kernel(uint8_t *buf, uint64_t physical_base, uint64_t virtual_
     at->disk_index = disk_index;
     at->partition_index = partition_index;
     put_text(at->fs_path, sizeof(at->fs_path), path, path_len);
-    return used_behind(buf, &at->header);
+    return used_after(buf, &at->header);
 }
 
 uint64_t walk_add_map(uint8_t *buf, const uint8_t *entries, size_t entries_len)
@@ -193,7 +193,7 @@ uint64_t walk_add_map(uint8_t *buf, const uint8_t *entries, size_t entries_len)
         append(buf, ULTRA_ATTRIBUTE_MEMORY_MAP, (uint32_t)(sizeof(at->header) + entries_len));
 
     memcpy(at->entries, entries, entries_len);
-    return used_behind(buf, &at->header);
+    return used_after(buf, &at->header);
 }
 
 uint64_t walk_add_module(uint8_t *buf, uint32_t type, const uint8_t *name, size_t name_len, uint64_t address, uint64_t size)
@@ -205,7 +205,7 @@ uint64_t walk_add_module(uint8_t *buf, uint32_t type, const uint8_t *name, size_
     put_text(at->name, sizeof(at->name), name, name_len);
     at->address = address;
     at->size = size;
-    return used_behind(buf, &at->header);
+    return used_after(buf, &at->header);
 }
 
 uint64_t walk_add_command_line(uint8_t *buf, const uint8_t *text, size_t text_len)
@@ -215,7 +215,7 @@ uint64_t walk_add_command_line(uint8_t *buf, const uint8_t *text, size_t text_le
         append(buf, ULTRA_ATTRIBUTE_COMMAND_LINE, (uint32_t)(sizeof(at->header) + width));
 
     put_text(at->text, width, text, text_len);
-    return used_behind(buf, &at->header);
+    return used_after(buf, &at->header);
 }
 
 uint64_t walk_add_framebuffer(uint8_t *buf, uint32_t width, uint32_t height, uint32_t pitch, uint16_t bpp, uint16_t format,
@@ -229,5 +229,5 @@ uint64_t walk_add_framebuffer(uint8_t *buf, uint32_t width, uint32_t height, uin
     at->fb.bpp = bpp;
     at->fb.format = format;
     at->fb.physical_address = address;
-    return used_behind(buf, &at->header);
+    return used_after(buf, &at->header);
 }

@@ -290,7 +290,7 @@ static void fits(enum side side)
 
 enum { WIDE = 2 * LONGEST };
 
-/* A buffer of WIDE bytes with the first attributes of the whole context, and room behind them. */
+/* A buffer of WIDE bytes with the first attributes of the whole context, and room after them. */
 static uint8_t *buffer_of(uint32_t count, enum side side)
 {
     uint8_t *buf = region_lend(&buffer, WIDE, side);
@@ -424,7 +424,7 @@ static void line_beside(size_t length, int in_front)
     struct pair pair = side_by_side(LINE, end, length, in_front);
     const uint8_t *given = letters(&first_slice, length, 'z', BACK);
 
-    checks_name("a text of %zu bytes %s the buffer", length, in_front ? "in front of" : "behind");
+    checks_name("a text of %zu bytes %s the buffer", length, in_front ? "in front of" : "after");
     memcpy(pair.slice, given, length);
     CHECK_ANSWER(ultra_add_command_line(pair.buf, end, pair.slice, length), ULTRA_OK, end);
     CHECK_BYTES(pair.buf + starts[LINE] + 8, given, length);
@@ -436,7 +436,7 @@ static void map_beside(uint32_t count, int in_front)
     uint32_t end = starts[MAP] + 8 + 24 * count;
     struct pair pair = side_by_side(MAP, end, 24 * count, in_front);
 
-    checks_name("a map of %" PRIu32 " entries %s the buffer", count, in_front ? "in front of" : "behind");
+    checks_name("a map of %" PRIu32 " entries %s the buffer", count, in_front ? "in front of" : "after");
     memcpy(pair.slice, entries, 24 * count);
     CHECK_ANSWER(ultra_add_map(pair.buf, end, pair.slice, 24 * count), ULTRA_OK, end);
     CHECK_BYTES(pair.buf + starts[MAP] + 8, entries, 24 * count);
@@ -519,7 +519,7 @@ static void extremes(void)
 
 enum { OVER = 1000 };
 
-/* A command line that fills the room to its last byte; what a longer buffer has behind the room stays and decides nothing. */
+/* A command line that fills the room to its last byte; what a longer buffer has after the room stays and decides nothing. */
 static void fill_room(size_t length, enum side side)
 {
     uint8_t *buf = region_lend(&buffer, length, side);
@@ -551,15 +551,15 @@ static void fill_room(size_t length, enum side side)
     CHECK_ANSWER(ultra_read(buf, ULTRA_ROOM_MAX - 1), ULTRA_OVERRUN, starts[LINE]);
 }
 
-/* Behind a full room stands the header of one more attribute, which is not seen. */
-static void attribute_behind_room(void)
+/* After a full room stands the header of one more attribute, which is not seen. */
+static void attribute_after_room(void)
 {
     const struct ultra_attribute_header header = {9, 8};
     uint32_t count = LINE + 2;
     uint8_t *buf;
 
     fill_room(ULTRA_ROOM_MAX + OVER, BACK);
-    checks_name("an attribute behind the room");
+    checks_name("an attribute after the room");
     region_protect(&buffer, WRITABLE);
     buf = buffer.lent;
     memcpy(buf + 4, &count, 4);
@@ -610,7 +610,7 @@ int main(void)
         fill_room(ULTRA_ROOM_MAX, (enum side)side);
         fill_room(ULTRA_ROOM_MAX + OVER, (enum side)side);
     }
-    attribute_behind_room();
+    attribute_after_room();
     neighbours();
     nulls();
     extremes();

@@ -530,7 +530,7 @@ static void read_foreign(int junk)
     free(f.context);
 }
 
-/* Platforms of each size that the protocol had or may have, and nothing that can be asked about behind the kernel. */
+/* Platforms of each size that the protocol had or may have, and nothing that can be asked about after the kernel. */
 static void read_short_foreign(void)
 {
     for (uint32_t size = 48; size <= 96; size += 8) {
@@ -557,7 +557,7 @@ static void read_short_foreign(void)
     }
 }
 
-/* What the library adds behind another writer's attributes; those keep every byte. */
+/* What the library adds after another writer's attributes; those keep every byte. */
 static void add_to_foreign(void)
 {
     struct foreign f = new_head(0x5A);

@@ -1,7 +1,7 @@
 /*
  * Memory to lend in tests, of just the length asked for.
  *
- * By default a region is mapped between two pages that cannot be touched, and what is lent stands flush with the one behind it or
+ * By default a region is mapped between two pages that cannot be touched, and what is lent stands flush with the one after it or
  * with the one in front of it; it can be made read-only. A byte read or written outside is then a fault, or, on the side that is
  * not flush, a changed byte of the filling.
  * With TESTS_ON_HEAP it is a heap block of that length, and a tool (valgrind, a sanitizer) watches the borders.

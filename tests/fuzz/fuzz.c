@@ -471,8 +471,8 @@ static void check_rebuilt(struct lent lent, uint64_t reading)
         used = end;
     }
     HOLDS(memcmp(built_bytes, plain_bytes, used) == 0);
-    for (size_t behind = used; behind < sizeof built_bytes && behind < used + 64; behind++)
-        HOLDS(built_bytes[behind] == 0xA5);
+    for (size_t after = used; after < sizeof built_bytes && after < used + 64; after++)
+        HOLDS(built_bytes[after] == 0xA5);
     HOLDS(ultra_read(built_bytes, used) == used);
 }
 
@@ -531,7 +531,7 @@ static uint64_t take_number(struct script *script)
     return which < sizeof near / sizeof near[0] ? near[which] : take64(script);
 }
 
-/* Letters behind a slash, with one byte of the script's choice in them, flush with a page that cannot be touched. */
+/* Letters after a slash, with one byte of the script's choice in them, flush with a page that cannot be touched. */
 static const uint8_t *take_text(struct script *script, struct region *region, size_t *length)
 {
     uint8_t *text;
@@ -707,8 +707,8 @@ static void run_script(struct script *script, uint8_t *buf, size_t len)
 
 /* ---- An input ---- */
 
-/* How many bytes the buffer has behind those of the input: none, some, or past the room. */
-static size_t behind(uint8_t choice, size_t given)
+/* How many bytes the buffer has after those of the input: none, some, or past the room. */
+static size_t after(uint8_t choice, size_t given)
 {
     static const size_t some[] = {0, 0, 1, 8, 100, 400, 1000, 4000};
     size_t more = some[choice % 8];
@@ -735,7 +735,7 @@ int LLVMFuzzerTestOneInput(const uint8_t *data, size_t size)
         return 0;
     script.at = data + given;
     script.end = data + size;
-    lent.len = given + behind(take8(&script), given);
+    lent.len = given + after(take8(&script), given);
     buf = region_lend(&buffer, lent.len, BACK);
     memset(buf, 0, lent.len);
     if (given != 0)

@@ -78,7 +78,7 @@ filled-only (byte n ∷ cs) (x ∷ b) o z =
 filled-only (silent ∷ cs) (x ∷ b) o z =
     ap₂ (λ (y : ℕ) (l : List ℕ). y ∷ l) (z 0 (omega arith) refl) (filled-only cs b (opens-rest silent cs x b o) (λ i l e. z (suc i) (omega arith) e))
 
--- two runs of cells, one behind the other
+-- two runs of cells, one after the other
 module _ (b : List ℕ) where
   pub at-front : (o p : ℕ) (xs ys : List Cell) → p ≡ o + length xs → At b o (xs ++ ys) → At b o xs × At b p ys
   at-front o p [] ys e h = let q : p ≡ o = omega arith in (tt, rw q h)

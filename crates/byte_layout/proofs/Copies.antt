@@ -1,4 +1,4 @@
--- Laws of copying to the front of a list, of raw bytes, and of a text with zeros behind it.
+-- Laws of copying to the front of a list, of raw bytes, and of a text with zeros after it.
 -- Assumes nothing.
 use Prim.Native.Nat.{ℕ, zero, suc, _+_, _-_, _≤_, _<_}
 use mathlib.Core.Path.{_≡_, refl, sym, ap, _∙_}
@@ -11,7 +11,7 @@ use lib.Seq.{drop-cons, set-at, append-snoc}
 use Rattle.byte_layout.specs.Fields.{padded}
 use Rattle.byte_layout.specs.Stored.{upToZero, bytesAt, textAt, over}
 
--- one more element behind the i that have been copied over the front of `out`
+-- one more element after the i that have been copied over the front of `out`
 pub front-more : (xs out a : List ℕ) (i v : ℕ) → length xs ≡ i → i < length out → a ≡ xs ++ drop i out → set a i v ≡ (xs ++ (v ∷ [])) ++ drop (i + 1) out
 front-more xs out a i v l h e =
     rw (e, add-one i, drop-cons out i 0 h)

@@ -1,4 +1,4 @@
--- A layout is written field by field: over the front of a list, each field is stored behind those before it.
+-- A layout is written field by field: over the front of a list, each field is stored after those before it.
 -- Assumes nothing.
 use Prim.Native.Nat.{ℕ, zero, suc, _+_, _≤_, _<_}
 use mathlib.Core.Path.{_≡_, refl, sym, ap, ap₂, _∙_}
@@ -62,12 +62,12 @@ filled-append (byte n ∷ xs) ys = ap (λ (m : List ℕ). n ∷ m) (filled-appen
 filled-append (silent ∷ xs) ys = ap (λ (m : List ℕ). 0 ∷ m) (filled-append xs ys)
 
 -- ---- one field more
--- what is stored behind what lies over the front lies over the front with it
+-- what is stored after what lies over the front lies over the front with it
 over-next : (x y e : List ℕ) → replaced (over x e) (length x) (length y) y ≡ over (x ++ y) e
 over-next x y e =
     rw (take-append-seam x (drop (length x) e), drop-append-add x (drop (length x) e) (length y), drop-drop (length y) (length x) e, length-append x y)
 
--- the first o bytes of `q` are what a writer writes of `fs`; behind them is what was in `e`
+-- the first o bytes of `q` are what a writer writes of `fs`; after them is what was in `e`
 pub record Front (e : List ℕ) (o : ℕ) (fs : List Field) (q : List ℕ) : Type 0 where
   pub ends : width fs ≡ o
   pub front : q ≡ over (filled (cells fs)) e
@@ -108,7 +108,7 @@ no-padding {e} {q} {o} {fs} t =
       front = t .front ∙ ap (λ (c : List Cell). over (filled c) e) (sym (cells-append fs (padding 0 ∷ []) ∙ append-nil (cells fs)));
     }
 
--- ---- bytes in their field, with zeros behind them
+-- ---- bytes in their field, with zeros after them
 padded-split : (k n : ℕ) (l : List ℕ) → k ≡ length l + n → padded k l ≡ l ++ padded n []
 padded-split k n [] e = let q : k ≡ n = omega arith in rw q
 padded-split zero n (x ∷ l) e = absurd (omega arith)

@@ -30,7 +30,7 @@ abbrev pub silence : ℕ → List Cell
 silence zero = []
 silence (suc k) = silent ∷ silence k
 
--- the first k of l and, where l is shorter, zeros behind it
+-- the first k of l and, where l is shorter, zeros after it
 abbrev pub padded : ℕ → List ℕ → List ℕ
 padded zero l = []
 padded (suc k) [] = 0 ∷ padded k []

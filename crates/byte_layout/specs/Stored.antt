@@ -23,6 +23,6 @@ unfoldable pub textAt : List ℕ → ℕ → ℕ → List ℕ
 textAt b o zero = []
 textAt b o (suc k) = upToZero (getD b o 0) (textAt b (o + 1) k)
 
--- l over the front of `out`; what is behind it stays
+-- l over the front of `out`; what is after it stays
 abbrev pub over : List ℕ → List ℕ → List ℕ
 over l out = l ++ drop (length l) out

@@ -22,7 +22,7 @@ pub fn text_length(bytes: &[u8], at: usize, width: usize) -> usize
     n
 }
 
-// Copies the `n` bytes from `at` on to the front of `out`; what is behind them stays.
+// Copies the `n` bytes from `at` on to the front of `out`; what is after them stays.
 pub fn copy(bytes: &[u8], at: usize, n: usize, out: &mut [u8])
     requires { ⌜ (at + n ≤ length (now bytes)) × (n ≤ length (now out)) ⌝ }
     ensures { λ _. ⌜ now (out .exit) ≡ over (bytesAt (now (bytes .entry)) at n) (now (out .entry)) ⌝ }
@@ -34,7 +34,7 @@ pub fn copy(bytes: &[u8], at: usize, n: usize, out: &mut [u8])
     }
 }
 
-// Copies the text in a field as wide as `out`, from `at` on, to the front of `out`; what is behind it stays.
+// Copies the text in a field as wide as `out`, from `at` on, to the front of `out`; what is after it stays.
 pub fn copy_text(bytes: &[u8], at: usize, out: &mut [u8])
     requires { ⌜ at + length (now out) ≤ length (now bytes) ⌝ }
     ensures { λ _. ⌜ now (out .exit) ≡ over (textAt (now (bytes .entry)) at (length (now (out .entry)))) (now (out .entry)) ⌝ }
@@ -43,7 +43,7 @@ pub fn copy_text(bytes: &[u8], at: usize, out: &mut [u8])
     copy(bytes, at, n, out);
 }
 
-// Stores the bytes from `at` on; what is before and behind them stays.
+// Stores the bytes from `at` on; what is before and after them stays.
 pub fn store(bytes: &[u8], out: &mut [u8], at: usize)
     requires { ⌜ at + length (now bytes) ≤ length (now out) ⌝ }
     ensures { λ _. ⌜ now (out .exit) ≡ replaced (now (out .entry)) at (length (now (bytes .entry))) (now (bytes .entry)) ⌝ }

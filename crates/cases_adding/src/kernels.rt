@@ -1,4 +1,4 @@
-// The kernel, added behind a platform.
+// The kernel, added after a platform.
 use cases_adds::context;
 use cases_shared::given;
 use ultra_format::KernelRecord;

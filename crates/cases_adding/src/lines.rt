@@ -1,4 +1,4 @@
-// The command line, added behind a platform and a kernel.
+// The command line, added after a platform and a kernel.
 use cases_adds::context;
 
 fn command_line(label: &[u8], text: &[u8]) {

@@ -1,4 +1,4 @@
-// The memory map, added behind a platform and a kernel.
+// The memory map, added after a platform and a kernel.
 use cases_adds::context;
 
 fn map(label: &[u8], numbers: &[u64]) {
@@ -12,11 +12,11 @@ fn order() {
     map(b"map (0, 8192), (4096, 1)", &[0, 8192, 1, 4096, 1, 1]);
     map(b"map of two empty entries at 5", &[5, 0, 1, 5, 0, 1]);
     map(
-        b"map, 0 bytes at 0 behind an end at 2^64",
+        b"map, 0 bytes at 0 after an end at 2^64",
         &[18446744073709547520, 4096, 1, 0, 0, 1],
     );
     map(
-        b"map, 0 bytes at 2^64 - 1 behind an end at 2^64",
+        b"map, 0 bytes at 2^64 - 1 after an end at 2^64",
         &[18446744073709547520, 4096, 1, 18446744073709551615, 0, 1],
     );
 }

@@ -1,4 +1,4 @@
-// A module, added behind a platform and a kernel.
+// A module, added after a platform and a kernel.
 use cases_adds::context;
 use cases_shared::given;
 use ultra_format::ModuleRecord;

@@ -134,7 +134,7 @@ fn names() {
     named(b"platform, name of 31 bytes", name);
     named(b"platform, name of 32 bytes", [b'n'; 32]);
     front(b"platform, name with a zero inside", b"fr\0st\0\0\0");
-    front(b"platform, name behind a zero", b"\0frost\0\0");
+    front(b"platform, name after a zero", b"\0frost\0\0");
     front(b"platform, name with byte 127", b"f\x7frost\0\0");
     front(b"platform, name with byte 128", b"f\x80rost\0\0");
 }

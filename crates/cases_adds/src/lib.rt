@@ -3,7 +3,7 @@
 pub mod context;
 
 use cases_shared::show;
-use ultra_format::Answer;
+use refusals::Answer;
 use ultra_format::FramebufferRecord;
 use ultra_format::KernelRecord;
 use ultra_format::ModuleRecord;

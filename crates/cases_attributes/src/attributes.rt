@@ -3,7 +3,7 @@ use crate::context;
 use cases_shared::build;
 use cases_shared::members;
 use cases_shared::show;
-use ultra_format::Answer;
+use refusals::Answer;
 use ultra_questions::AttributeAnswer;
 use ultra_questions::Part;
 
@@ -93,7 +93,7 @@ pub fn every_type() {
     starts(&space);
 }
 
-// The platform of `size` bytes has a kernel right behind it, whose type, size, bases and size in memory are not zero. (Only the byte where
+// The platform of `size` bytes has a kernel right after it, whose type, size, bases and size in memory are not zero. (Only the byte where
 // one of 56 bytes would have its depth is zero: it is the lowest of a base, which is a multiple of 4,096.)
 fn platform_of(label: &[u8], size: u32) {
     let mut space = [165u8; 1024];

@@ -1,8 +1,8 @@
-// Attributes with every member set. In an array of 165s, what is silent stays 165: reserved bytes, bytes behind a text's closing zero,
-// bytes behind the sizes of document 01's table, bodies of type 7.
+// Attributes with every member set. In an array of 165s, what is silent stays 165: reserved bytes, bytes after a text's closing zero,
+// bytes after the sizes of document 01's table, bodies of type 7.
 use cases_shared::build;
 
-// A platform of `size` bytes at 8. All of its members are written, and what is put behind a short one then covers those past its size.
+// A platform of `size` bytes at 8. All of its members are written, and what is put after a short one then covers those past its size.
 pub fn platform(buf: &mut [u8; 1024], size: u32) {
     build::header(buf, 8, 1, size);
     build::put_u32(buf, 16, 2);

@@ -1,7 +1,7 @@
 // What was read is added again, to a second buffer.
 use crate::lines;
 use cases_shared::show;
-use ultra_format::Answer;
+use refusals::Answer;
 use ultra_format::Records;
 
 fn records(from: &[u8; 1024], index: u64) -> Records {
@@ -62,10 +62,10 @@ fn compare(first: [u8; 1024], second: [u8; 1024]) {
     );
 }
 
-fn behind(second: [u8; 1024]) {
+fn after(second: [u8; 1024]) {
     let blank = [90u8; 1024];
     lines::count(
-        b"bytes behind the second that differ from 90: ",
+        b"bytes after the second that differ from 90: ",
         show::differences(&second[736..1024], &blank[736..1024]),
     );
 }
@@ -75,5 +75,5 @@ pub fn all(first: [u8; 1024]) {
     let mut second = [90u8; 1024];
     lines::call(b"read and added again", all_of(&first, &mut second));
     compare(first, second);
-    behind(second);
+    after(second);
 }

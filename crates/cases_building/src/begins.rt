@@ -1,7 +1,7 @@
 // Beginning, in buffers of 165s.
 use crate::lines;
 use cases_shared::show;
-use ultra_format::Answer;
+use refusals::Answer;
 
 fn begun(label: &[u8], answer: Answer, bytes: &[u8]) {
     show::words(label);

@@ -3,7 +3,7 @@ use crate::lines;
 use cases_shared::given;
 use cases_shared::members;
 use cases_shared::show;
-use ultra_format::Answer;
+use refusals::Answer;
 use ultra_format::ModuleRecord;
 use ultra_questions::AttributeAnswer;
 
@@ -122,10 +122,10 @@ fn silent_bytes(space: [u8; 1024]) {
     silent(b"silent bytes of the second module", &space[568..572]);
 }
 
-fn behind(space: [u8; 1024]) {
+fn after(space: [u8; 1024]) {
     let blank = [165u8; 1024];
     lines::count(
-        b"bytes behind the context that differ from 165: ",
+        b"bytes after the context that differ from 165: ",
         show::differences(&space[736..1024], &blank[736..1024]),
     );
 }
@@ -145,6 +145,6 @@ pub fn all() -> [u8; 1024] {
     line_and_map(&mut space);
     read_back(&space);
     silent_bytes(space);
-    behind(space);
+    after(space);
     space
 }

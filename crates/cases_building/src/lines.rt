@@ -1,6 +1,6 @@
 // Lines that the modules share.
 use cases_shared::show;
-use ultra_format::Answer;
+use refusals::Answer;
 
 pub fn call(label: &[u8], answer: Answer) {
     show::words(label);

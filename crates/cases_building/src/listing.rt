@@ -71,7 +71,7 @@ fn differences(left: &[u8; 512], right: &[u8; 512]) {
     lines::count(b", bytes that differ ", show::differences(left, right));
 }
 
-// A context is emptied by beginning it again; what was behind its head stays.
+// A context is emptied by beginning it again; what was after its head stays.
 fn begin_again(built: [u8; 512]) {
     let mut space = built;
     show::words(b"listing, begin again");

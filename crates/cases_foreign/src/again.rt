@@ -1,7 +1,7 @@
 // The platform of a context by hand is read, and added in a buffer of 90s.
 use cases_shared::build;
 use cases_shared::show;
-use ultra_format::Answer;
+use refusals::Answer;
 
 fn add(from: &[u8; 1024], to: &mut [u8]) -> Answer {
     let answer = ultra_questions::attribute(from, 0);

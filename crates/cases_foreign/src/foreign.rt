@@ -16,18 +16,18 @@ fn short_platform() -> [u8; 1024] {
     buf
 }
 
-fn behind_a_short_platform() {
+fn after_a_short_platform() {
     let before = short_platform();
     let mut after = before;
     let record = given::kernel();
-    show::words(b"kernel behind a platform of 56 bytes");
+    show::words(b"kernel after a platform of 56 bytes");
     show::answer(ultra_building::add_kernel(&mut after, record));
     part(
         b"\n  bytes of the platform that changed: ",
         show::differences(&before[8..64], &after[8..64]),
     );
     show::reading(
-        b"kernel behind a platform of 56 bytes, read",
+        b"kernel after a platform of 56 bytes, read",
         ultra_reading::read(&after),
     );
 }
@@ -55,7 +55,7 @@ fn compare(before: [u8; 1024], after: [u8; 1024]) {
         show::differences(&before[8..464], &after[8..464]),
     );
     part(
-        b"  bytes behind that changed: ",
+        b"  bytes after that changed: ",
         show::differences(&before[560..1024], &after[560..1024]),
     );
 }
@@ -74,6 +74,6 @@ fn kept() {
 }
 
 pub fn all() {
-    behind_a_short_platform();
+    after_a_short_platform();
     kept();
 }

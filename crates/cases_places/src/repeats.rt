@@ -33,18 +33,18 @@ fn with_framebuffer(before: [u8; 1024]) -> [u8; 1024] {
 
 fn maps(buf: [u8; 1024]) {
     let map = with_map(buf);
-    cases_adds::map(b"map behind a map", map, &[0, 4096, 1]);
-    cases_adds::map(b"map of 4 numbers behind a map", map, &[0, 4096, 1, 4096]);
+    cases_adds::map(b"map after a map", map, &[0, 4096, 1]);
+    cases_adds::map(b"map of 4 numbers after a map", map, &[0, 4096, 1, 4096]);
     let line = with_line(map);
-    cases_adds::map(b"map behind a map and a line", line, &[0, 4096, 1]);
+    cases_adds::map(b"map after a map and a line", line, &[0, 4096, 1]);
 }
 
 fn lines(buf: [u8; 1024]) {
     let line = with_line(buf);
-    cases_adds::command_line(b"line behind a line", line, b"quiet");
-    cases_adds::command_line(b"line with byte 128 behind a line", line, b"quiet\x80");
+    cases_adds::command_line(b"line after a line", line, b"quiet");
+    cases_adds::command_line(b"line with byte 128 after a line", line, b"quiet\x80");
     let map = with_map(line);
-    cases_adds::command_line(b"line behind a line and a map", map, b"quiet");
+    cases_adds::command_line(b"line after a line and a map", map, b"quiet");
 }
 
 fn framebuffer_of_format_0() -> FramebufferRecord {
@@ -56,15 +56,15 @@ fn framebuffer_of_format_0() -> FramebufferRecord {
 fn framebuffers(buf: [u8; 1024]) {
     let framebuffer = with_framebuffer(buf);
     let good = given::framebuffer();
-    cases_adds::framebuffer(b"framebuffer behind a framebuffer", framebuffer, good);
+    cases_adds::framebuffer(b"framebuffer after a framebuffer", framebuffer, good);
     let bad = framebuffer_of_format_0();
     cases_adds::framebuffer(
-        b"framebuffer of format 0 behind a framebuffer",
+        b"framebuffer of format 0 after a framebuffer",
         framebuffer,
         bad,
     );
     let map = with_map(framebuffer);
-    cases_adds::framebuffer(b"framebuffer behind a framebuffer and a map", map, good);
+    cases_adds::framebuffer(b"framebuffer after a framebuffer and a map", map, good);
 }
 
 fn module_of_type_0() -> ModuleRecord {
@@ -76,19 +76,19 @@ fn module_of_type_0() -> ModuleRecord {
 fn modules(buf: [u8; 1024]) {
     let good = given::module();
     let framebuffer = with_framebuffer(buf);
-    cases_adds::module(b"module behind a framebuffer", framebuffer, good);
+    cases_adds::module(b"module after a framebuffer", framebuffer, good);
     let module = with_module(buf);
-    cases_adds::module(b"module behind a module", module, good);
+    cases_adds::module(b"module after a module", module, good);
 }
 
 fn split_modules(buf: [u8; 1024]) {
     let module = with_module(buf);
     let split = with_framebuffer(module);
     let good = given::module();
-    cases_adds::module(b"module behind a module and a framebuffer", split, good);
+    cases_adds::module(b"module after a module and a framebuffer", split, good);
     let bad = module_of_type_0();
     cases_adds::module(
-        b"module of type 0 behind a module and a framebuffer",
+        b"module of type 0 after a module and a framebuffer",
         split,
         bad,
     );

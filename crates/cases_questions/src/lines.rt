@@ -14,7 +14,7 @@ fn line(label: &[u8], buf: &[u8; 1024]) {
     show::words(b"\"\n");
 }
 
-// A context with an empty command line of 32 bytes at 432; behind it an attribute of type 0, which a count of 4 takes in.
+// A context with an empty command line of 32 bytes at 432; after it an attribute of type 0, which a count of 4 takes in.
 fn context(buf: &mut [u8; 1024]) {
     build::head(buf, 3);
     build::platform_and_kernel(buf, 88);
@@ -51,20 +51,20 @@ fn junk(buf: &mut [u8; 1024], at: usize) {
     build::put_eight(buf, at, b"\xa5\xa5\xa5\xa5\xa5\xa5\xa5\xa5");
 }
 
-fn junk_behind() {
+fn junk_after() {
     let mut space = [0u8; 1024];
     context(&mut space);
     line(b"empty text", &space);
     junk(&mut space, 448);
     junk(&mut space, 456);
     build::put_eight(&mut space, 440, b"\0unheard");
-    line(b"empty text, junk behind", &space);
+    line(b"empty text, junk after", &space);
     build::put_eight(&mut space, 440, b"ro\0rw\0\xa5\xa5");
-    line(b"text, junk behind", &space);
+    line(b"text, junk after", &space);
 }
 
-// A command line behind two attributes of type 7 and a map of no ranges.
-fn behind_others() {
+// A command line after two attributes of type 7 and a map of no ranges.
+fn after_others() {
     let mut space = [0u8; 1024];
     build::head(&mut space, 6);
     build::platform_and_kernel(&mut space, 88);
@@ -73,12 +73,12 @@ fn behind_others() {
     build::header(&mut space, 456, 3, 8);
     build::header(&mut space, 464, 5, 16);
     build::put_eight(&mut space, 472, b"1234567\0");
-    line(b"line behind others", &space);
+    line(b"line after others", &space);
 }
 
 pub fn all() {
     counts();
     full();
-    junk_behind();
-    behind_others();
+    junk_after();
+    after_others();
 }

@@ -56,7 +56,7 @@ fn no_ranges() {
 }
 
 // The map itself is sound, and what follows it is refused.
-fn refused_behind() {
+fn refused_after() {
     let mut space = [0u8; 1024];
     build::head(&mut space, 4);
     map_of_two(&mut space);
@@ -65,8 +65,8 @@ fn refused_behind() {
     copy(b"fourth of type 0 into 0", &space, 0);
 }
 
-// A map behind a module; its types need 64 bits, and so do an address and a size.
-fn behind_a_module() {
+// A map after a module; its types need 64 bits, and so do an address and a size.
+fn after_a_module() {
     let mut space = [0u8; 1024];
     build::head(&mut space, 4);
     build::platform_and_kernel(&mut space, 88);
@@ -86,13 +86,13 @@ fn behind_a_module() {
         1,
         9223372036854775809,
     );
-    copy(b"types of 64 bits behind a module into 6", &space, 6);
+    copy(b"types of 64 bits after a module into 6", &space, 6);
 }
 
 pub fn all() {
     lengths();
     no_map();
     no_ranges();
-    refused_behind();
-    behind_a_module();
+    refused_after();
+    after_a_module();
 }

@@ -54,7 +54,7 @@ fn three_types(label: &[u8], count: u32, first: u32, second: u32, third: u32) {
     read(label, &space, 1024);
 }
 
-// A platform of `size` bytes, with the kernel right behind it, in a buffer of `length` bytes.
+// A platform of `size` bytes, with the kernel right after it, in a buffer of `length` bytes.
 fn platform_of(label: &[u8], size: u32, length: usize) {
     let mut space = [0u8; 1024];
     build::head(&mut space, 2);

@@ -41,7 +41,7 @@ pub fn header(buf: &mut [u8; 1024], at: usize, kind: u32, size: u32) {
     }
 }
 
-// A platform of `size` bytes at 8, and a kernel of 336 behind it.
+// A platform of `size` bytes at 8, and a kernel of 336 after it.
 pub fn platform_and_kernel(buf: &mut [u8; 1024], size: u32) {
     header(buf, 8, 1, size);
     put_u32(buf, 16, 2);

@@ -6,7 +6,7 @@ use ultra_format::OptionalU8;
 use ultra_format::OptionalU64;
 use ultra_format::PlatformRecord;
 
-// Texts that begin with eight bytes as they are, and zeros behind them.
+// Texts that begin with eight bytes as they are, and zeros after them.
 pub fn name(front: &[u8; 8]) -> [u8; 32] {
     let mut name = [0u8; 32];
     words::store_u64(&mut name, 0, words::load_u64(front, 0));

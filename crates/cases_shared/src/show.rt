@@ -2,8 +2,8 @@
 ghost use Prim.Native.Nat.{_+_, _≤_, _<_};
 ghost use lib.ListN.{length};
 use libc::STDOUT_FILENO;
-use ultra_format::Answer;
-use ultra_format::Refusal;
+use refusals::Answer;
+use refusals::Refusal;
 use ultra_reading::Header;
 use ultra_reading::Reading;
 use ultra_reading::Step;
@@ -61,7 +61,7 @@ pub fn step(label: &[u8], answer: Step) {
     words(b"\n");
 }
 
-// Where an attribute is, behind its answer.
+// Where an attribute is, after its answer.
 pub fn header(header: Header) {
     number(b", type ", header.kind as u64);
     number(b" at ", header.start as u64);
@@ -73,7 +73,7 @@ fn byte(byte: u8) {
     number(b" ", byte as u64);
 }
 
-// Each byte as a number, behind a blank.
+// Each byte as a number, after a blank.
 pub fn bytes(bytes: &[u8]) {
     let mut i = 0;
     while i < bytes.len() {
@@ -82,7 +82,7 @@ pub fn bytes(bytes: &[u8]) {
     }
 }
 
-// Each number, behind a blank.
+// Each number, after a blank.
 pub fn numbers(numbers: &[u64]) {
     let mut i = 0;
     while i < numbers.len() {

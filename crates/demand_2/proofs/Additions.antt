@@ -1,4 +1,4 @@
--- What an add is given becomes an attribute that meets the rules and fits its fields, where it has no fault of 12 to 16.
+-- What an add is given becomes an attribute that meets the rules and fits its fields, where it breaks none of 12 to 16.
 -- Assumes nothing.
 use Prim.Native.Nat.{ℕ, zero, suc, _-_, _≤_, _<_, _%_}
 use mathlib.Core.Path.{_≡_, refl, _∙_}
@@ -16,14 +16,14 @@ use Rattle.ultra_format.specs.Layouts.{memberFields, depthFields, entriesFields
 use Rattle.ultra_format.specs.Members.{every, nonzero, ascii, asciiText, pathText, texts}
 use Rattle.ultra_format.specs.Rules.{TypeSuits, AttributeMeets}
 use Rattle.ultra_format.specs.Records.{memberOfU64, memberOfU8, unlessTrailing, trimmed}
-use Rattle.ultra_format.specs.Additions.{Addition, entriesGiven, bodyGiven, typeGiven, sizeGiven, attributeGiven, additionFault, bytesGiven, formed}
+use Rattle.ultra_format.specs.Additions.{Addition, entriesGiven, bodyGiven, typeGiven, sizeGiven, attributeGiven, additionCheck, bytesGiven, formed}
 use Rattle.ultra_format.specs.Additions.{Addition.addPlatform, Addition.addKernel, Addition.addMap, Addition.addModule, Addition.addCommandLine, Addition.addFramebuffer}
 use Rattle.ultra_format.specs.declared.records.PlatformRecord.{PlatformRecord}
 use Rattle.ultra_format.specs.declared.records.OptionalU64.{OptionalU64}
 use Rattle.ultra_format.specs.declared.records.OptionalU64.the-variants as wide
 use Rattle.ultra_format.specs.declared.records.OptionalU8.{OptionalU8}
 use Rattle.ultra_format.specs.declared.records.OptionalU8.the-variants as narrow
-use Rattle.ultra_format.proofs.Chains.{both-hold}
+use Rattle.refusals.proofs.Chains.{both-hold}
 use Rattle.ultra_format.proofs.Bodies.{lateFields}
 use Rattle.ultra_building.proofs.Adding.{given-holds}
 use Rattle.ultra_format.specs.Plain.{writtenSize}
@@ -141,7 +141,7 @@ given-type (addCommandLine t) = (tt, omega arith, omega arith)
 given-type (addFramebuffer r) = (tt, omega arith, omega arith)
 
 -- ---- the attribute
-module _ (g : Addition) (e : additionFault g ≡ 0) where
+module _ (g : Addition) (e : additionCheck g ≡ 0) where
   pub given-meets : AttributeMeets (sizeGiven g) (bodyGiven g)
   given-meets =
       let s = written-size g in

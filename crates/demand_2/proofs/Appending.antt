@@ -9,31 +9,31 @@ use native.Mathlib.Nat.{eq-or-lt-of-le}
 use lib.ListN.{length, getD, take, drop, length-append, take-append-drop, List·getD-append}
 use lib.Seq.{getD-append-seam, take-at}
 use Rattle.words.specs.Words.{littleEndian, replaced}
-use Rattle.words.proofs.Stores.{before-it, within-it, behind-it, length-replaced}
+use Rattle.words.proofs.Stores.{before-it, within-it, after-it, length-replaced}
 use Rattle.byte_layout.specs.Fields.{Field, bytes, cells, filled, Fits, SilentAt}
 use Rattle.byte_layout.specs.Fields as fields
 use Rattle.byte_layout.proofs.Written.{filled-append}
 use Rattle.byte_layout.proofs.Cells.{At, along, index, opens-at, at-opens, length-filled, filled-opens, at-append}
 use Rattle.byte_layout.proofs.FieldLaws.{length-cells, cells-append}
-use Rattle.ultra_format.specs.Answers.{valueOf, orRefused}
+use Rattle.refusals.specs.Answers.{valueOf, orRefused}
 use Rattle.ultra_format.specs.Contexts.{typeOf, Attribute, Context, count, sizeAt, bodyAt, typeAt, total, used}
 use Rattle.ultra_format.specs.Layouts.{attributeFields, attributesFields, layout, Opens, roomOf, attributeWritten, written}
-use Rattle.ultra_format.specs.Places.{placeFault}
+use Rattle.ultra_format.specs.Places.{placeCheck}
 use Rattle.ultra_format.specs.Rules.{AttributeMeets, Meets}
 use Rattle.ultra_format.specs.Decoding.{storedType, storedCount, typesBefore}
-use Rattle.ultra_format.specs.Additions.{Addition, typeGiven, sizeGiven, attributeGiven, bytesGiven, additionFault, bodyGiven}
-use Rattle.ultra_format.specs.declared.Answer.the-variants.{Done}
+use Rattle.ultra_format.specs.Additions.{Addition, typeGiven, sizeGiven, attributeGiven, bytesGiven, additionCheck, bodyGiven}
+use Rattle.refusals.specs.declared.Answer.the-variants.{Done}
 use Rattle.ultra_format.proofs.Attributes.{Sized, width-attributes, sized, width-layout, Says, opens-says}
 use Rattle.ultra_format.proofs.Decoded.{starts}
 use Rattle.ultra_format.proofs.Witness.{silent-zero}
 use Rattle.ultra_reading.proofs.PlaceLaws.{length-types}
-use Rattle.ultra_acceptance.specs.Acceptance.{HeldBy}
+use Rattle.ultra_acceptance.specs.Acceptance.{HoldsContext}
 use Rattle.ultra_acceptance.proofs.Types.{fits, Ordered, ordered}
 use Rattle.ultra_acceptance.proofs.Walked.{accepted}
 use Rattle.ultra_acceptance.proofs.Acceptance.{complete}
 use Rattle.ultra_building.specs.Building.{counted, withAttribute, addedAt, added}
 use Rattle.ultra_building.proofs.Placements.{Admits, admits}
-use Rattle.ultra_building.proofs.Adding.{length-counted, faultOn, added-held}
+use Rattle.ultra_building.proofs.Adding.{length-counted, checkOn, added-held}
 use Rattle.demand_2.specs.Arguments.{AdditionTyped}
 use Rattle.demand_2.specs.Demand2.{Appended}
 use Rattle.demand_2.proofs.Additions.{fits-append, given-meets, given-width, given-length, given-type, attribute-fits}
@@ -86,7 +86,7 @@ unfolding cells filled
 written-more c a =
     rw (length-more (c .attributes) a, cells-more (c .attributes) a, filled-append (cells (attributesFields (c .attributes))) (cells (attributeFields a)))
 
--- a head with its count raised, and x behind what follows it
+-- a head with its count raised, and x after what follows it
 module _ (x : List ℕ) (major minor n u s : ℕ) (l : length x ≡ s) where
   abbrev stored : List ℕ → List ℕ
   stored b = replaced (replaced b 4 4 (littleEndian 4 (n + 1))) u s x
@@ -112,11 +112,11 @@ types-same b d zero h = refl
 types-same b d (suc n) h = ap₂ (λ (t : ℕ) (l : List ℕ). t ∷ l) (h n (omega arith)) (types-same b d n (λ i k. h i (omega arith)))
 
 -- ---- the buffer with the attribute
-module _ (b : List ℕ) (c : Context) (g : Addition) (h : HeldBy 0 b c) (y : AdditionTyped g) (z : faultOn b c g ≡ 0) where
-  spot : Admits (typesBefore b (storedCount b)) (roomOf b) (used c) (typeGiven g) (additionFault g) (sizeGiven g)
+module _ (b : List ℕ) (c : Context) (g : Addition) (h : HoldsContext 0 b c) (y : AdditionTyped g) (z : checkOn b c g ≡ 0) where
+  spot : Admits (typesBefore b (storedCount b)) (roomOf b) (used c) (typeGiven g) (additionCheck g) (sizeGiven g)
   spot = admits _ _ _ _ _ _ z
 
-  pub sound : additionFault g ≡ 0
+  pub sound : additionCheck g ≡ 0
   sound = spot .sound
 
   says : Says b c
@@ -168,7 +168,7 @@ module _ (b : List ℕ) (c : Context) (g : Addition) (h : HeldBy 0 b c) (y : Add
 
   old : (i : ℕ) → 8 + i < used c → getD left (8 + i) 0 ≡ getD b (8 + i) 0
   unfolding counted
-  old i k = before-new (8 + i) k ∙ behind-it b (littleEndian 4 (storedCount b + 1)) 4 4 refl (omega (arith, spot .within)) (8 + i) (omega arith)
+  old i k = before-new (8 + i) k ∙ after-it b (littleEndian 4 (storedCount b + 1)) 4 4 refl (omega (arith, spot .within)) (8 + i) (omega arith)
 
   new : (i : ℕ) → i < sizeGiven g → getD left (used c + i) 0 ≡ getD (bytesGiven g) i 0
   new i k = within-it (counted b) (bytesGiven g) (used c) (length (bytesGiven g)) refl (omega (arith, counted-length, spot .within)) i (omega (arith, given-length g sound))
@@ -216,7 +216,7 @@ module _ (b : List ℕ) (c : Context) (g : Addition) (h : HeldBy 0 b c) (y : Add
       says-type left more says-more (storedCount b) (omega (arith, count-more))
       ∙ ap (λ (i : ℕ). typeAt more i) (says .count) ∙ ap (λ (x : Attribute). typeOf (x .body)) (at-new l a _)
 
-  placed-all : (i : ℕ) → i < count more → placeFault (typesBefore left i) (storedType left i) ≡ 0
+  placed-all : (i : ℕ) → i < count more → placeCheck (typesBefore left i) (storedType left i) ≡ 0
   placed-all i k =
       ⊎-elim
       (λ e. rw (e, old-types (storedCount b) (omega arith), new-type) (spot .place))
@@ -251,7 +251,7 @@ module _ (b : List ℕ) (c : Context) (g : Addition) (h : HeldBy 0 b c) (y : Add
         each = each-more;
       }
 
-  pub held-more : HeldBy 0 left more
+  pub held-more : HoldsContext 0 left more
   held-more = (rw (← left-length) at meets-more, opens-more)
 
   -- ---- what else an add leaves
@@ -262,16 +262,16 @@ module _ (b : List ℕ) (c : Context) (g : Addition) (h : HeldBy 0 b c) (y : Add
   unfolding counted
   other-bytes i (inl k) = version i k
   other-bytes i (inr (inl k)) =
-      before-new i (k .1) ∙ behind-it b (littleEndian 4 (storedCount b + 1)) 4 4 refl (omega (arith, spot .within)) i (k .0)
+      before-new i (k .1) ∙ after-it b (littleEndian 4 (storedCount b + 1)) 4 4 refl (omega (arith, spot .within)) i (k .0)
   other-bytes i (inr (inr k)) =
-      behind-it (counted b) (bytesGiven g) (used c) (length (bytesGiven g)) refl (omega (arith, counted-length, spot .within)) i (omega (arith, given-length g sound))
-      ∙ behind-it b (littleEndian 4 (storedCount b + 1)) 4 4 refl (omega (arith, spot .within)) i (omega arith)
+      after-it (counted b) (bytesGiven g) (used c) (length (bytesGiven g)) refl (omega (arith, counted-length, spot .within)) i (omega (arith, given-length g sound))
+      ∙ after-it b (littleEndian 4 (storedCount b + 1)) 4 4 refl (omega (arith, spot .within)) i (omega arith)
 
 -- what an accepted add leaves holds one attribute more
-pub appends : (b : List ℕ) (c : Context) (g : Addition) (n : ℕ) → HeldBy 0 b c → AdditionTyped g → added b g .0 ≡ Done n → Appended b c g (added b g .1) n
-appends b c g n h y e = let q = added-held b c g h in rw q (go (faultOn b c g) refl (rw q at e))
+pub appends : (b : List ℕ) (c : Context) (g : Addition) (n : ℕ) → HoldsContext 0 b c → AdditionTyped g → added b g .0 ≡ Done n → Appended b c g (added b g .1) n
+appends b c g n h y e = let q = added-held b c g h in rw q (go (checkOn b c g) refl (rw q at e))
   where
-    go : (f : ℕ) → faultOn b c g ≡ f → addedAt b (bodyGiven g) (orRefused f (used c) (Done (used c))) .0 ≡ Done n
+    go : (f : ℕ) → checkOn b c g ≡ f → addedAt b (bodyGiven g) (orRefused f (used c) (Done (used c))) .0 ≡ Done n
         → Appended b c g (addedAt b (bodyGiven g) (orRefused f (used c) (Done (used c))) .1) n
     go zero z r =
         let w : used c + sizeGiven g ≡ n = ap valueOf r in

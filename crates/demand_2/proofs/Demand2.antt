@@ -11,17 +11,17 @@ use lib.Dec.{leb}
 use borrow.Author.Tests.{leb-true, lt-leb}
 use lib.Seq.{getD-drop, getD-append-add}
 use Rattle.byte_layout.specs.Stored.{over}
-use Rattle.ultra_format.specs.Refusals.{SHORT}
-use Rattle.ultra_format.specs.Answers.{refused, numberOf}
+use Rattle.refusals.specs.Refusals.{SHORT}
+use Rattle.refusals.specs.Answers.{refused, numberOf}
 use Rattle.ultra_format.specs.Layouts.{roomOf}
 use Rattle.ultra_format.specs.Decoding.{pick}
 use Rattle.ultra_format.specs.Contexts.{Body, typeOf}
 use Rattle.ultra_format.specs.Plain.{writtenSize}
-use Rattle.ultra_format.specs.Additions.{bodyGiven, formed, givenFault}
-use Rattle.ultra_format.specs.declared.Answer.{Answer}
-use Rattle.ultra_format.specs.declared.Answer.the-variants.{Done, Refused}
+use Rattle.ultra_format.specs.Additions.{bodyGiven, formed, givenCheck}
+use Rattle.refusals.specs.declared.Answer.{Answer}
+use Rattle.refusals.specs.declared.Answer.the-variants.{Done, Refused}
 use Rattle.ultra_building.specs.Building.{emptyHead, begun, placement, addedAt, addedMembers}
-use Rattle.ultra_acceptance.specs.Acceptance.{HeldBy}
+use Rattle.ultra_acceptance.specs.Acceptance.{HoldsContext}
 use Rattle.ultra_acceptance.specs.Steps.{StepsThrough}
 use Rattle.ultra_acceptance.proofs.Steps.{stepping-through}
 use Rattle.demand_2.specs.Calls.{membersFormed, membersBody, Call, run}
@@ -60,7 +60,7 @@ begun-long b e = go (leb 8 (roomOf b)) refl e
     go true q w = omega (arith, leb-true 8 (roomOf b) q)
     go false q w = absurd (let z : _≡_ {A = ℕ} 0 1 = cc in omega arith)
 
--- ---- after any calls behind it
+-- ---- after any calls after it
 module _ (b : List ℕ) (ks : List AnyCall) (e : begun b .0 ≡ Done 8) (y : AllTyped ks) where
   -- the buffer is as long as it was, and keeps to the list
   kept : Keeps (bufferNow b ks) (listNow b ks) × (length (bufferNow b ks) ≡ length b)
@@ -72,7 +72,7 @@ module _ (b : List ℕ) (ks : List AnyCall) (e : begun b .0 ≡ Done 8) (y : All
   follows : Follows (bufferNow b ks) (listNow b ks)
   follows = kept .0 .follows
 
-  two : 2 ≤ length (listNow b ks) → HeldBy 2 (bufferNow b ks) (contextGiven (listNow b ks))
+  two : 2 ≤ length (listNow b ks) → HoldsContext 2 (bufferNow b ks) (contextGiven (listNow b ks))
   two h = held-two (bufferNow b ks) (listNow b ks) follows (omega (arith, length-given (listNow b ks)))
 
   steps : 2 ≤ length (listNow b ks) → StepsThrough (bufferNow b ks) (contextGiven (listNow b ks))
@@ -95,7 +95,7 @@ same a b e = cc
 
 kept-members : (b : List ℕ) (f : Bool) (x : Body) (a : Answer) → answer (addedMembers b f x .0) ≡ answer a → (numberOf a ≡ 0 → ⊥) → addedMembers b f x .1 ≡ b
 unfolding addedMembers
-kept-members b f x a e n = go (placement b (typeOf x) (givenFault f x) (writtenSize x)) e
+kept-members b f x a e n = go (placement b (typeOf x) (givenCheck f x) (writtenSize x)) e
   where
     go : (p : Answer) → answer (addedAt b x p .0) ≡ answer a → addedAt b x p .1 ≡ b
     go (Done v) w = absurd (n (ap numberOf (same a (Done (v + writtenSize x)) (sym w))))

@@ -16,29 +16,29 @@ use Rattle.ultra_format.specs.Contexts.{typeOf, Attribute, Context, count, attr
 use Rattle.ultra_format.specs.Layouts.{entriesFields, attributesFields, layout, roomOf, written}
 use Rattle.ultra_format.specs.Decoding.{start, typesBefore, contextOf}
 use Rattle.words.specs.Words.{numberAt, numbersAt}
-use Rattle.ultra_format.specs.Members.{every, sizeSuits, kernelValues, moduleValues, bppSuits, framebufferValues, values, asciiText, pathText, texts, ranges, entriesOrdered, ordered, bodyFault}
-use Rattle.ultra_format.specs.Places.{placed, occurs, placeFault}
+use Rattle.ultra_format.specs.Members.{every, sizeSuits, kernelValues, moduleValues, bppSuits, framebufferValues, values, asciiText, pathText, texts, ranges, entriesOrdered, ordered, bodyCheck}
+use Rattle.ultra_format.specs.Places.{placed, occurs, placeCheck}
 use Rattle.ultra_format.specs.Plain.{writtenSize, Plain}
 use Rattle.ultra_format.specs.Records.{trimmed}
 use Rattle.ultra_questions.specs.MapQuestion.{numbers}
 use Rattle.ultra_format.specs.Examples.{zeros, sixTypes, sixTypesBytes}
-use Rattle.ultra_format.specs.Additions.{Addition, Addition.addPlatform, Addition.addMap, Addition.addCommandLine, attributeGiven, entriesGiven, bodyGiven, givenFault}
-use Rattle.ultra_format.proofs.Chains.{both-hold}
+use Rattle.ultra_format.specs.Additions.{Addition, Addition.addPlatform, Addition.addMap, Addition.addCommandLine, attributeGiven, entriesGiven, bodyGiven, givenCheck}
+use Rattle.refusals.proofs.Chains.{both-hold}
 use Rattle.ultra_format.proofs.Decoded.{decoded-only}
 use Rattle.ultra_format.proofs.Witness.{six-types-written, silent-zero}
-use Rattle.ultra_reading.specs.Reading.{headFault, boundsFault, attributesAnswer, usedLength}
+use Rattle.ultra_reading.specs.Reading.{headCheck, boundsCheck, attributesAnswer, usedLength}
 use Rattle.ultra_reading.specs.Stepping.{cursorAt}
 use Rattle.ultra_reading.specs.declared.cursor.Cursor.{Cursor}
-use Rattle.ultra_acceptance.specs.Acceptance.{HeldBy}
+use Rattle.ultra_acceptance.specs.Acceptance.{HoldsContext}
 use Rattle.ultra_acceptance.proofs.Acceptance.{accepts-exactly}
-use Rattle.ultra_building.specs.Building.{begun, placementFault, placement, addedMembers, added}
-use Rattle.ultra_format.specs.declared.Answer.the-variants.{Done}
+use Rattle.ultra_building.specs.Building.{begun, appendCheck, placement, addedMembers, added}
+use Rattle.refusals.specs.declared.Answer.the-variants.{Done}
 use Rattle.demand_3.specs.Witness.{everyPlatformRecord, everyKernelRecord, everyEntries, everyLine}
 use Rattle.ultra_acceptance.specs.Steps.{StepsThrough}
 use Rattle.demand_2.specs.Calls.{membersBody, Reply, Call.add, Call.read, Call.step, Reply.number}
 use Rattle.demand_2.specs.CallsFromC.{CallFromC, CallFromC.ultraRead, CallFromC.ultraStep, CallFromC.ultraAddMap, AnyCall, AnyCall.fromRattle, AnyCall.fromC, asked, inRattle, runAny, after}
 use Rattle.demand_2.specs.Arguments.{AdditionTyped, Among, AllTyped}
-use Rattle.demand_2.specs.Model.{attributesGiven, contextGiven, typesBehind, giving, listAfterAll, replyTo, anyReply}
+use Rattle.demand_2.specs.Model.{attributesGiven, contextGiven, typesAfter, giving, listAfterAll, replyTo, anyReply}
 use Rattle.demand_2.specs.Demand2.{Undetermined, ReadsBack, Appended, adds, bufferNow, listNow}
 use Rattle.demand_2.specs.Witness.{sixAdditions, everyCall, ones, absentPlatform, widestCalls, Built, EveryKind, FromCAndMembers, AnyArguments, one, two, TwoAreEnough, otherHead}
 use Rattle.demand_2.proofs.Arguments.{EachTyped, each-typed, typed-none, typed-first, typed-rest, typed-more}
@@ -79,7 +79,7 @@ abbrev Lists : ℕ → Type 0
 Lists room = listAfterAll room everyCall [] ≡ sixAdditions
 
 every-list : Lists 640 × Lists 65536
-unfolding listAfterAll giving attributesGiven typesBehind placementFault placeFault placed occurs bodyGiven entriesGiven trimmed writtenSize givenFault bodyFault sizeSuits values kernelValues moduleValues framebufferValues bppSuits texts asciiText pathText every ranges ordered entriesOrdered total numbers numberAt numbersAt
+unfolding listAfterAll giving attributesGiven typesAfter appendCheck placeCheck placed occurs bodyGiven entriesGiven trimmed writtenSize givenCheck bodyCheck sizeSuits values kernelValues moduleValues framebufferValues bppSuits texts asciiText pathText every ranges ordered entriesOrdered total numbers numberAt numbersAt
 every-list = (refl, refl)
 
 -- ---- the buffer, and what is answered of it
@@ -121,7 +121,7 @@ abbrev Replied : ℕ → CallFromC → ℕ → Type 0
 Replied room k n = anyReply room (fromC k) sixAdditions ≡ number n
 
 replied : Replied 640 ultraRead 640 × Replied 640 (ultraStep 0 16) 25769803792 × Replied 640 (ultraStep 5 608) 640 × Replied 65536 (ultraStep 6 640) 0 × Replied 640 (ultraStep 0 640) 21474837120 × Replied 65536 (ultraStep 0 644) 21474837124
-unfolding replyTo attributesGiven bodyGiven entriesGiven trimmed writtenSize total cells filled entriesFields attributesFields boundsFault numberAt
+unfolding replyTo attributesGiven bodyGiven entriesGiven trimmed writtenSize total cells filled entriesFields attributesFields boundsCheck numberAt
 replied = (refl, refl, refl, refl, refl, refl)
 
 pub every-kind : Built sixAdditions sixTypes sixTypesBytes 640 → EveryKind
@@ -153,7 +153,7 @@ module _ (w : AllTyped (adds sixAdditions)) (b : List ℕ) (e : length b ≡ 432
   two-typed = each-typed (adds two) (here w _ (inl refl), (here w _ (inr (inl refl)), tt))
 
   two-listed : listAfterAll 432 (adds two) [] ≡ two
-  unfolding listAfterAll adds attributesGiven typesBehind placementFault placeFault placed occurs bodyGiven entriesGiven trimmed writtenSize givenFault bodyFault sizeSuits values kernelValues texts asciiText pathText every ranges ordered total
+  unfolding listAfterAll adds attributesGiven typesAfter appendCheck placeCheck placed occurs bodyGiven entriesGiven trimmed writtenSize givenCheck bodyCheck sizeSuits values kernelValues texts asciiText pathText every ranges ordered total
   two-listed = refl
 
   two-now : listNow b (adds two) ≡ two
@@ -176,7 +176,7 @@ module _ (w : AllTyped (adds sixAdditions)) (b : List ℕ) (e : length b ≡ 104
   one-typed = each-typed (adds one) (here w _ (inl refl), tt)
 
   one-listed : listAfterAll 104 (adds one) [] ≡ one
-  unfolding listAfterAll adds attributesGiven typesBehind placementFault placeFault placed occurs bodyGiven trimmed writtenSize givenFault bodyFault sizeSuits values texts asciiText every ranges ordered total
+  unfolding listAfterAll adds attributesGiven typesAfter appendCheck placeCheck placed occurs bodyGiven trimmed writtenSize givenCheck bodyCheck sizeSuits values texts asciiText every ranges ordered total
   one-listed = refl
 
   one-now : listNow b (adds one) ≡ one
@@ -216,19 +216,19 @@ unfolding every
 other-bytes = some-bytes otherHead refl
 
 other-empty : usedLength 0 otherHead ≡ Done 8
-unfolding usedLength headFault attributesAnswer start numberAt
+unfolding usedLength headCheck attributesAnswer start numberAt
 other-empty = refl
 
-other-held : HeldBy 0 otherHead (contextOf otherHead)
+other-held : HoldsContext 0 otherHead (contextOf otherHead)
 other-held =
     let h = accepts-exactly 0 otherHead 8 other-bytes .0 other-empty in
-    subst (HeldBy 0 otherHead) (decoded-only 0 (roomOf otherHead) otherHead (h .0) (h .1 .0) (h .1 .1)) (h .1)
+    subst (HoldsContext 0 otherHead) (decoded-only 0 (roomOf otherHead) otherHead (h .0) (h .1 .0) (h .1 .1)) (h .1)
 
 abbrev anyPlatform : Addition
 anyPlatform = addPlatform (everyPlatformRecord .platform)
 
 other-answered : added otherHead anyPlatform .0 ≡ Done 96
-unfolding addedMembers placement usedLength headFault attributesAnswer start typesBefore numberAt placementFault placeFault placed occurs bodyGiven trimmed writtenSize givenFault bodyFault sizeSuits values texts asciiText every ranges ordered
+unfolding addedMembers placement usedLength headCheck attributesAnswer start typesBefore numberAt appendCheck placeCheck placed occurs bodyGiven trimmed writtenSize givenCheck bodyCheck sizeSuits values texts asciiText every ranges ordered
 other-answered = refl
 
 pub other : AllTyped (adds sixAdditions) → Appended otherHead (contextOf otherHead) anyPlatform (added otherHead anyPlatform .1) 96

@@ -10,21 +10,21 @@ use lib.ListN.{length, getD, take, length-drop}
 use borrow.Author.Tests.{le-leb}
 use Rattle.byte_layout.specs.Fields.{cells, filled, Fits}
 use Rattle.byte_layout.specs.Stored.{over}
-use Rattle.ultra_format.specs.Answers.{orRefused}
+use Rattle.refusals.specs.Answers.{orRefused}
 use Rattle.ultra_format.specs.Contexts.{Body, typeOf, Attribute, Context, total, used}
 use Rattle.ultra_format.specs.Layouts.{attributesFields, layout, Opens, roomOf, written}
 use Rattle.ultra_format.specs.Rules.{Meets}
 use Rattle.ultra_format.specs.Decoding.{storedType, storedCount, typesBefore}
 use Rattle.ultra_format.specs.Plain.{writtenSize}
-use Rattle.ultra_format.specs.Additions.{Addition, attributeGiven, additionFault, sizeGiven, bodyGiven, formed, givenFault}
+use Rattle.ultra_format.specs.Additions.{Addition, attributeGiven, additionCheck, sizeGiven, bodyGiven, formed, givenCheck}
 use Rattle.ultra_format.specs.Additions.{Addition.addCommandLine}
-use Rattle.ultra_format.specs.declared.Answer.the-variants.{Done}
+use Rattle.refusals.specs.declared.Answer.the-variants.{Done}
 use Rattle.ultra_format.proofs.Attributes.{at, sized, Says, opens-says}
 use Rattle.byte_layout.proofs.Cells.{at-opens}
-use Rattle.ultra_acceptance.specs.Acceptance.{HeldBy}
+use Rattle.ultra_acceptance.specs.Acceptance.{HoldsContext}
 use Rattle.ultra_acceptance.proofs.Acceptance.{complete}
-use Rattle.ultra_building.specs.Building.{emptyHead, begun, placementFault, addedAt, addedMembers, added}
-use Rattle.ultra_building.proofs.Adding.{membersFaultOn, members-held, faultOn}
+use Rattle.ultra_building.specs.Building.{emptyHead, begun, appendCheck, addedAt, addedMembers, added}
+use Rattle.ultra_building.proofs.Adding.{membersCheckOn, members-held, checkOn}
 use Rattle.ultra_building.proofs.Placements.{Admits, admits}
 use Rattle.demand_2.specs.Calls.{Members, membersFormed, membersBody, Call, Reply, run}
 use Rattle.demand_2.specs.Calls.{Call.begin, Call.add, Call.addMembers, Call.read, Call.step, Call.askAttribute, Call.askStart, Call.askPart, Call.copyMap, Call.copyMapBytes, Call.askLine, Call.locateLine, Call.askModule, Call.list, Call.askListingLength}
@@ -33,16 +33,16 @@ use Rattle.demand_2.specs.CallsFromC.{CallFromC.ultraRead, CallFromC.ult
 use Rattle.demand_2.specs.CallsFromC.{CallFromC.ultraAddPlatform, CallFromC.ultraAddKernel, CallFromC.ultraAddMap, CallFromC.ultraAddModule, CallFromC.ultraAddCommandLine, CallFromC.ultraAddFramebuffer}
 use Rattle.demand_2.specs.CallsFromC.{AnyCall.fromRattle, AnyCall.fromC}
 use Rattle.demand_2.specs.Arguments.{AdditionTyped, MembersTyped, AllTyped}
-use Rattle.demand_2.specs.Model.{attributesGiven, contextGiven, typesBehind, membersRefusal, refusalOf, giving, appended, listAfter, listAfterAll}
+use Rattle.demand_2.specs.Model.{attributesGiven, contextGiven, typesAfter, membersRefusal, refusalOf, giving, appended, listAfter, listAfterAll}
 use Rattle.demand_2.specs.Demand2.{Follows}
 use Rattle.demand_2.proofs.Arguments.{Typed, typed-first, typed-rest}
 use Rattle.demand_2.proofs.GivenMembers.{RecordOf, record-of, same-run}
 use Rattle.demand_2.proofs.Appending.{all-more, says-type, sound, left-length, written-left, held-more, total-more}
 
 -- ---- the list
--- every element was of its type, and had no fault of 12 to 16
+-- every element was of its type, and broke none of 12 to 16
 abbrev pub Added : List Addition → Type 0
-Added gs = (i : ℕ) → i < length gs → AdditionTyped (getD gs i (addCommandLine [])) × (additionFault (getD gs i (addCommandLine [])) ≡ 0)
+Added gs = (i : ℕ) → i < length gs → AdditionTyped (getD gs i (addCommandLine [])) × (additionCheck (getD gs i (addCommandLine [])) ≡ 0)
 
 -- what a call finds and leaves
 pub record Keeps (d : List ℕ) (gs : List Addition) : Type 0 where
@@ -64,17 +64,17 @@ unfolding attributesGiven
 used-more gs g = omega (arith, ap total (given-append gs (g ∷ [])), total-more (attributesGiven gs) (attributeGiven g))
 
 -- its types are those that the buffer has
-pub types-behind : (d : List ℕ) (k : ℕ) (gs : List Addition) → ((i : ℕ) → i < length gs → storedType d (k + i) ≡ typeOf (at (attributesGiven gs) i .body))
-    → typesBehind (typesBefore d k) gs ≡ typesBefore d (k + length gs)
-unfolding typesBehind typesBefore attributesGiven
-types-behind d k [] h = rw add-zero
-types-behind d k (g ∷ gs) h =
+pub types-after : (d : List ℕ) (k : ℕ) (gs : List Addition) → ((i : ℕ) → i < length gs → storedType d (k + i) ≡ typeOf (at (attributesGiven gs) i .body))
+    → typesAfter (typesBefore d k) gs ≡ typesBefore d (k + length gs)
+unfolding typesAfter typesBefore attributesGiven
+types-after d k [] h = rw add-zero
+types-after d k (g ∷ gs) h =
     let q : suc k + length gs ≡ k + suc (length gs) = omega arith in
     let t = rw add-zero at (h 0 (omega arith)) in
-    rw (← q, ← t) (types-behind d (suc k) gs (λ i l. let r : suc k + i ≡ k + suc i = omega arith in rw r (h (suc i) (omega arith))))
+    rw (← q, ← t) (types-after d (suc k) gs (λ i l. let r : suc k + i ≡ k + suc i = omega arith in rw r (h (suc i) (omega arith))))
 
 -- ---- a buffer that follows it
-held-follows : (d : List ℕ) (gs : List Addition) → HeldBy 0 d (contextGiven gs) → take (used (contextGiven gs)) d ≡ written (contextGiven gs) → Follows d gs
+held-follows : (d : List ℕ) (gs : List Addition) → HoldsContext 0 d (contextGiven gs) → take (used (contextGiven gs)) d ≡ written (contextGiven gs) → Follows d gs
 held-follows d gs h e =
     record {
       bytes = e;
@@ -87,21 +87,21 @@ module _ (d : List ℕ) (gs : List Addition) (f : Follows d gs) where
   pub says-given : Says d (contextGiven gs)
   says-given = opens-says d (contextGiven gs) (f .held .0 .fits) (sized (f .held .0)) (f .held .1)
 
-  types-given : typesBehind [] gs ≡ typesBefore d (storedCount d)
+  types-given : typesAfter [] gs ≡ typesBefore d (storedCount d)
   unfolding typesBefore
   types-given =
-      types-behind d 0 gs (λ i l. rw zero-add (says-type d (contextGiven gs) says-given i (omega (arith, length-given gs))))
+      types-after d 0 gs (λ i l. rw zero-add (says-type d (contextGiven gs) says-given i (omega (arith, length-given gs))))
       ∙ ap (typesBefore d) (zero-add (length gs) ∙ sym (f .counted))
 
-  same-fault : (f : Bool) (x : Body) → membersFaultOn d (contextGiven gs) f x ≡ membersRefusal (roomOf d) gs f x
-  same-fault f x = rw types-given
+  same-check : (f : Bool) (x : Body) → membersCheckOn d (contextGiven gs) f x ≡ membersRefusal (roomOf d) gs f x
+  same-check f x = rw types-given
 
   pub long : 8 ≤ length d
   long = omega (arith, f .held .0 .within)
 
   -- what an add does, by the refusal of the list
   pub added-is : (ok : Bool) (x : Body) → addedMembers d ok x ≡ addedAt d x (orRefused (membersRefusal (roomOf d) gs ok x) (used (contextGiven gs)) (Done (used (contextGiven gs))))
-  added-is ok x = members-held d (contextGiven gs) ok x (f .held) ∙ rw (same-fault ok x)
+  added-is ok x = members-held d (contextGiven gs) ok x (f .held) ∙ rw (same-check ok x)
 
 -- ---- a beginning
 empty-meets : (room : ℕ) → 8 ≤ room → Meets 0 room (contextGiven [])
@@ -153,9 +153,9 @@ module _ (d : List ℕ) (gs : List Addition) (h : Keeps d gs) where
   abbrev now : Context
   now = contextGiven gs
 
-  -- what is not refused has no fault of 12 to 16
-  unfaulty : (f : Bool) (x : Body) → membersRefusal (roomOf d) gs f x ≡ 0 → givenFault f x ≡ 0
-  unfaulty f x e = admits (typesBehind [] gs) (roomOf d) (used now) (typeOf x) (givenFault f x) (writtenSize x) e .sound
+  -- what is not refused breaks none of 12 to 16
+  unbroken : (f : Bool) (x : Body) → membersRefusal (roomOf d) gs f x ≡ 0 → givenCheck f x ≡ 0
+  unbroken f x e = admits (typesAfter [] gs) (roomOf d) (used now) (typeOf x) (givenCheck f x) (writtenSize x) e .sound
 
   add-follows : (g : Addition) → AdditionTyped g → Keeps (added d g .1) (appended (refusalOf (roomOf d) gs g) gs g) × (length (added d g .1) ≡ length d)
   unfolding attributesGiven
@@ -166,11 +166,11 @@ module _ (d : List ℕ) (gs : List Addition) (h : Keeps d gs) where
       go (suc f) e = (h, refl)
       go zero e =
           let k = h .follows .held in
-          let z = same-fault d gs (h .follows) (formed g) (bodyGiven g) ∙ e in
+          let z = same-check d gs (h .follows) (formed g) (bodyGiven g) ∙ e in
           let q = given-append gs (g ∷ []) in (
             record {
               follows = held-follows _ (gs ++ (g ∷ [])) (rw q (held-more d now g k y z)) (rw q (written-left d now g k y z (h .follows .bytes)));
-              added = all-more gs g (addCommandLine []) (λ (x : Addition). AdditionTyped x × (additionFault x ≡ 0)) (h .added) (y, sound d now g k y z);
+              added = all-more gs g (addCommandLine []) (λ (x : Addition). AdditionTyped x × (additionCheck x ≡ 0)) (h .added) (y, sound d now g k y z);
             },
             left-length d now g k y z,
           )
@@ -186,7 +186,7 @@ module _ (d : List ℕ) (gs : List Addition) (h : Keeps d gs) where
       go (suc f) e = rw (added-is d gs (h .follows) (membersFormed m) (membersBody m), e) (h, refl)
       go zero e =
           let g = giving (membersBody m) in
-          let r = record-of m y (unfaulty (membersFormed m) (membersBody m) e) in
+          let r = record-of m y (unbroken (membersFormed m) (membersBody m) e) in
           let q : refusalOf (roomOf d) gs g ≡ 0 = (λ i. membersRefusal (roomOf d) gs (sym (r .forms) i) (r .body i)) ∙ e in
           subst (λ (x : Reply × List ℕ). Keeps (x .1) (gs ++ (g ∷ [])) × (length (x .1) ≡ length d)) (sym (same-run d m r)) (rw q at (add-follows g (r .typed)))
 

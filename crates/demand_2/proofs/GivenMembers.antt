@@ -11,15 +11,15 @@ use Rattle.words.specs.Words.{numbersAt, numbersIn}
 use Rattle.byte_layout.specs.Fields.{Fits}
 use Rattle.byte_layout.specs.Stored.{Bytes}
 use Rattle.byte_layout.proofs.FieldLaws.{number-fits}
-use Rattle.ultra_format.specs.Answers.{numberOf}
+use Rattle.refusals.specs.Answers.{numberOf}
 use Rattle.ultra_format.specs.Contexts.{Body, typeOf}
 use Rattle.ultra_format.specs.Layouts.{bodyFields}
 use Rattle.ultra_format.specs.Members.{texts}
 use Rattle.ultra_format.specs.Rules.{TypeSuits}
 use Rattle.ultra_format.specs.Plain.{writtenSize}
-use Rattle.ultra_format.specs.Additions.{bodyGiven, formed, givenFault, sizeGiven, entriesGiven}
-use Rattle.ultra_format.specs.declared.Answer.{Answer}
-use Rattle.ultra_format.specs.declared.Answer.the-variants.{Done, Refused}
+use Rattle.ultra_format.specs.Additions.{bodyGiven, formed, givenCheck, sizeGiven, entriesGiven}
+use Rattle.refusals.specs.declared.Answer.{Answer}
+use Rattle.refusals.specs.declared.Answer.the-variants.{Done, Refused}
 use Rattle.ultra_acceptance.proofs.Walked.{BodyHolds}
 use Rattle.ultra_building.specs.Building.{placement, addedAt, addedMembers}
 use Rattle.ultra_building.proofs.Placements.{placed}
@@ -53,7 +53,7 @@ members-size (kernelMembers physical virtual size partitionType disk partition d
 members-size (mapMembers entries) = rw (numbers-given (entriesGiven (numbersIn entries)))
 members-size (moduleMembers kind name address size) = refl
 
--- members without a fault fit their fields
+-- members that break no rule fit their fields
 members-fit : (m : Members) → MembersTyped m → (membersFormed m ≡ true) × BodyHolds (writtenSize (membersBody m)) (membersBody m)
     → Fits (bodyFields (writtenSize (membersBody m)) (membersBody m))
 unfolding writtenSize texts Fits
@@ -73,7 +73,7 @@ pub record RecordOf (m : Members) : Type 0 where
   pub body : bodyGiven (giving (membersBody m)) ≡ membersBody m
   pub forms : membersFormed m ≡ formed (giving (membersBody m))
 
-pub record-of : (m : Members) → MembersTyped m → givenFault (membersFormed m) (membersBody m) ≡ 0 → RecordOf m
+pub record-of : (m : Members) → MembersTyped m → givenCheck (membersFormed m) (membersBody m) ≡ 0 → RecordOf m
 record-of m y z =
     let h = given-holds (membersFormed m) (membersBody m) z in
     let f = members-fit m y h in
@@ -92,8 +92,8 @@ module _ (b : List ℕ) (m : Members) where
 
   pub as-record : MembersTyped m → AsRecord b m
   unfolding run addedMembers
-  as-record y = go (placement b (typeOf (membersBody m)) (givenFault (membersFormed m) (membersBody m)) (writtenSize (membersBody m))) refl
+  as-record y = go (placement b (typeOf (membersBody m)) (givenCheck (membersFormed m) (membersBody m)) (writtenSize (membersBody m))) refl
     where
-      go : (p : Answer) → placement b (typeOf (membersBody m)) (givenFault (membersFormed m) (membersBody m)) (writtenSize (membersBody m)) ≡ p → AsRecord b m
+      go : (p : Answer) → placement b (typeOf (membersBody m)) (givenCheck (membersFormed m) (membersBody m)) (writtenSize (membersBody m)) ≡ p → AsRecord b m
       go (Done n) e = let r = record-of m y (placed b _ _ _ n e .1 .sound) in inr (r .typed, r .body, same-run r)
       go (Refused r) e = inl (r, rw e)

@@ -9,7 +9,7 @@ use Rattle.ultra_format.specs.Contexts.{typeOf, Attribute, Context, count, attr
 use Rattle.ultra_format.specs.Additions.{Addition, attributeGiven}
 use Rattle.ultra_format.specs.Additions.{Addition.addCommandLine}
 use Rattle.ultra_format.proofs.Attributes.{body-fits}
-use Rattle.demand_3.specs.Demand3.{Held}
+use Rattle.ultra_acceptance.specs.Acceptance.{HoldsContext}
 use Rattle.demand_3.proofs.Demand3.{demand-3}
 use Rattle.demand_2.specs.Model.{attributesGiven, contextGiven, giving}
 use Rattle.demand_2.specs.Demand2.{recordBack, recordAt, ReadsBack}
@@ -18,7 +18,7 @@ use Rattle.demand_2.proofs.Following.{Added, length-given}
 use Rattle.demand_2.proofs.Records.{record-answered, giving-given}
 
 -- ---- any context without a type from 7 up: the record answered is the one that gives the body
-pub record-at : (b : List ℕ) (c : Context) → Held b c → (i : ℕ) → i < count c → typeOf (bodyAt c i) < 7 → recordAt b i ≡ giving (bodyAt c i) ∷ []
+pub record-at : (b : List ℕ) (c : Context) → HoldsContext 2 b c → (i : ℕ) → i < count c → typeOf (bodyAt c i) < 7 → recordAt b i ≡ giving (bodyAt c i) ∷ []
 record-at b c h i k t =
     let r = demand-3 .reads b c h in
     ap₂ recordBack (r .each i k) (r .parts i k)
@@ -31,7 +31,7 @@ at-given [] i h = absurd (not-suc-le-zero h)
 at-given (g ∷ gs) zero h = refl
 at-given (g ∷ gs) (suc i) h = at-given gs i (le-of-suc-le-suc h)
 
-pub reads-back : (b : List ℕ) (gs : List Addition) → Held b (contextGiven gs) → Added gs → ReadsBack b gs
+pub reads-back : (b : List ℕ) (gs : List Addition) → HoldsContext 2 b (contextGiven gs) → Added gs → ReadsBack b gs
 reads-back b gs h a =
     let c = contextGiven gs in
     let r = demand-3 .reads b c h in

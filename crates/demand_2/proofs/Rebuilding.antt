@@ -15,27 +15,27 @@ use Rattle.byte_layout.proofs.FieldLaws.{length-cells}
 use Rattle.ultra_format.specs.Contexts.{typeOf, Attribute, Context, count, attributeAt, sizeAt, bodyAt, total, used}
 use Rattle.ultra_format.specs.Contexts.{Body.other}
 use Rattle.ultra_format.specs.Layouts.{layout, roomOf, written}
-use Rattle.ultra_format.specs.Places.{placeFault}
+use Rattle.ultra_format.specs.Places.{placeCheck}
 use Rattle.ultra_format.specs.Plain.{writtenSize, Plain}
 use Rattle.ultra_format.specs.Decoding.{storedType, typesBefore}
-use Rattle.ultra_format.specs.Additions.{Addition, bodyGiven, formed, typeGiven, sizeGiven, attributeGiven, additionFault}
+use Rattle.ultra_format.specs.Additions.{Addition, bodyGiven, formed, typeGiven, sizeGiven, attributeGiven, additionCheck}
 use Rattle.ultra_format.specs.Additions.{Addition.addCommandLine}
 use Rattle.ultra_format.proofs.Attributes.{attribute, at, sized, width-layout, body-fits, Says, opens-says}
 use Rattle.ultra_reading.proofs.PlaceLaws.{length-types}
 use Rattle.ultra_acceptance.proofs.Walked.{accepted}
 use Rattle.ultra_acceptance.proofs.Acceptance.{complete}
-use Rattle.ultra_building.specs.Building.{placementFault, begun, added}
-use Rattle.demand_3.specs.Demand3.{Held}
+use Rattle.ultra_building.specs.Building.{appendCheck, begun, added}
+use Rattle.ultra_acceptance.specs.Acceptance.{HoldsContext}
 use Rattle.demand_2.specs.Calls.{run}
 use Rattle.demand_2.specs.Calls.{Call.add}
 use Rattle.demand_2.specs.CallsFromC.{after, replies}
 use Rattle.demand_2.specs.CallsFromC.{AnyCall.fromRattle}
 use Rattle.demand_2.specs.Arguments.{AdditionTyped, AllTyped}
-use Rattle.demand_2.specs.Model.{attributesGiven, contextGiven, typesBehind, refusalOf, giving, appended, listAfterAll}
+use Rattle.demand_2.specs.Model.{attributesGiven, contextGiven, typesAfter, refusalOf, giving, appended, listAfterAll}
 use Rattle.demand_2.specs.Demand2.{recordsBack, adds, AllSucceeded, rebuilding, Rebuilt}
 use Rattle.demand_2.proofs.Arguments.{typed-first, typed-rest, typed-more, typed-none, typed-add}
 use Rattle.demand_2.proofs.Appending.{total-append, all-more, says-type}
-use Rattle.demand_2.proofs.Following.{Added, Keeps, length-given, given-append, types-behind, begun-is, begin-follows, added-is, step-follows, same-room}
+use Rattle.demand_2.proofs.Following.{Added, Keeps, length-given, given-append, types-after, begun-is, begin-follows, added-is, step-follows, same-room}
 use Rattle.demand_2.proofs.Records.{giving-body, giving-typed, giving-clear}
 use Rattle.demand_2.proofs.ReadingBack.{record-at}
 
@@ -60,7 +60,7 @@ takes (g ∷ more) gs d h y t =
 
 -- ---- they are those whose context some buffer holds, wherever there is room for it: what stands in that buffer at the place of g tells
 -- that g may stand there
-module _ (b : List ℕ) (p : List Addition) (g : Addition) (q : List Addition) (h : Held b (contextGiven (p ++ g ∷ q))) where
+module _ (b : List ℕ) (p : List Addition) (g : Addition) (q : List Addition) (h : HoldsContext 2 b (contextGiven (p ++ g ∷ q))) where
   abbrev whole : Context
   whole = contextGiven (p ++ g ∷ q)
 
@@ -83,27 +83,27 @@ module _ (b : List ℕ) (p : List Addition) (g : Addition) (q : List Addition) (
       ∙ (λ i. typeOf (at (parts i) (sym (length-given p) i) .body))
       ∙ ap (λ (a : Attribute). typeOf (a .body)) (getD-append-seam front (attributeGiven g) (attributesGiven q) (attribute 0 (other 0)))
 
-  types-before : typesBehind [] p ≡ typesBefore b (length p)
+  types-before : typesAfter [] p ≡ typesBefore b (length p)
   unfolding typesBefore
   types-before =
-      types-behind b 0 p (λ i k. rw zero-add
+      types-after b 0 p (λ i k. rw zero-add
       (says-type b whole says i (omega (arith, here)) ∙ ap (λ (l : List Attribute). typeOf (at l i .body)) parts
       ∙ ap (λ (a : Attribute). typeOf (a .body)) (List·getD-append front _ _ i (omega (arith, length-given p)))))
       ∙ ap (typesBefore b) (zero-add (length p))
 
-  placed : placeFault (typesBefore b (length p)) (typeGiven g) ≡ 0
+  placed : placeCheck (typesBefore b (length p)) (typeGiven g) ≡ 0
   placed = rw type-here at (accepted 2 b (used whole) (complete 2 b whole (h .0) (h .1)) .each (length p) (omega (arith, here, says .count)) .place)
 
   size-here : used (contextGiven p) + sizeGiven g ≤ used whole
   unfolding total attributesGiven
   size-here = omega (arith, ap total parts, total-append front (attributeGiven g ∷ attributesGiven q))
 
-  unrefused : (room : ℕ) → additionFault g ≡ 0 → used whole ≤ room → refusalOf room p g ≡ 0
-  unfolding placementFault
+  unrefused : (room : ℕ) → additionCheck g ≡ 0 → used whole ≤ room → refusalOf room p g ≡ 0
+  unfolding appendCheck
   unrefused room f w =
       rw (types-before, length-types b (length p), lt-ltb (length p) 1024 (omega (arith, here, h .0 .most)), placed, f, le-leb (used (contextGiven p) + sizeGiven g) room (omega (arith, size-here)))
 
-taken : (room : ℕ) (b : List ℕ) (q p gs : List Addition) → gs ≡ p ++ q → Held b (contextGiven gs) → Added gs → used (contextGiven gs) ≤ room → Taken room p q
+taken : (room : ℕ) (b : List ℕ) (q p gs : List Addition) → gs ≡ p ++ q → HoldsContext 2 b (contextGiven gs) → Added gs → used (contextGiven gs) ≤ room → Taken room p q
 unfolding Taken
 taken room b [] p gs e h a w = tt
 taken room b (g ∷ q) p gs e h a w =
@@ -125,7 +125,7 @@ unfolding adds
 added-typed [] a = typed-none
 added-typed (g ∷ gs) a = typed-more (fromRattle (add g)) (adds gs) (typed-add g (a 0 (omega arith) .0)) (added-typed gs (λ i k. a (suc i) (omega arith)))
 
-module _ (b : List ℕ) (c : Context) (h : Held b c) (p : Plain b c) where
+module _ (b : List ℕ) (c : Context) (h : HoldsContext 2 b c) (p : Plain b c) where
   module _ (i : ℕ) (k : i < count c) where
     body-back : bodyGiven (giving (bodyAt c i)) ≡ bodyAt c i
     body-back = giving-body (sizeAt c i) (bodyAt c i) (h .0 .each i k .typeSuits) (p .types i k) (body-fits (h .0) i k)
@@ -133,7 +133,7 @@ module _ (b : List ℕ) (c : Context) (h : Held b c) (p : Plain b c) where
     attribute-back : attributeGiven (giving (bodyAt c i)) ≡ attributeAt c i
     attribute-back = λ j. attribute ((ap writtenSize body-back ∙ sym (p .sizes i k)) j) (body-back j)
 
-    given-added : AdditionTyped (giving (bodyAt c i)) × (additionFault (giving (bodyAt c i)) ≡ 0)
+    given-added : AdditionTyped (giving (bodyAt c i)) × (additionCheck (giving (bodyAt c i)) ≡ 0)
     given-added = (giving-typed (sizeAt c i) (bodyAt c i) (body-fits (h .0) i k), giving-clear (sizeAt c i) (bodyAt c i) (h .0 .each i k) (p .sizes i k) body-back)
 
   -- the attributes and the additions that are read back at the first n indices
@@ -147,7 +147,7 @@ module _ (b : List ℕ) (c : Context) (h : Held b c) (p : Plain b c) where
         given-append (recordsBack b n) (g ∷ [])
             ∙ (λ j. r .0 j ++ (attribute-back n l j ∷ []))
             ∙ sym (take-suc (c .attributes) n (attribute 0 (other 0)) l),
-        all-more (recordsBack b n) g (addCommandLine []) (λ (x : Addition). AdditionTyped x × (additionFault x ≡ 0)) (r .1) (given-added n l),
+        all-more (recordsBack b n) g (addCommandLine []) (λ (x : Addition). AdditionTyped x × (additionCheck x ≡ 0)) (r .1) (given-added n l),
       )
 
   abbrev again : List Addition
@@ -169,7 +169,7 @@ module _ (b : List ℕ) (c : Context) (h : Held b c) (p : Plain b c) where
 
   allowed : (room : ℕ) → used c ≤ room → Taken room [] again
   allowed room l =
-      taken room b again [] again refl (subst (Held b) (sym context-back) h) (back (count c) (omega arith) .1)
+      taken room b again [] again refl (subst (HoldsContext 2 b) (sym context-back) h) (back (count c) (omega arith) .1)
       (omega (arith, ap (λ (x : Context). used x) context-back))
 
   pub rebuilt-list : (room : ℕ) → used c ≤ room → listAfterAll room (adds again) [] ≡ again

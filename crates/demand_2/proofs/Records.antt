@@ -1,5 +1,5 @@
 -- An attribute's body and the addition that gives it: what the attribute question answers of a body is that addition, which is of its
--- types and has no fault where the body meets the rules and is written in its own size.
+-- types and breaks no rule where the body meets the rules and is written in its own size.
 -- Assumes nothing.
 use Prim.Native.Nat.{ℕ, zero, suc, _-_, _*_, _/_, _%_, _<_}
 use mathlib.Core.Path.{_≡_, refl, ap, _∙_}
@@ -18,9 +18,10 @@ use Rattle.ultra_format.specs.Layouts.{memberFields, depthFields, entriesFields
 use Rattle.ultra_format.specs.Rules.{TypeSuits, AttributeMeets}
 use Rattle.ultra_format.specs.Plain.{writtenSize}
 use Rattle.ultra_format.specs.Records.{optionalU64, optionalU8, recordsOf}
-use Rattle.ultra_format.specs.Additions.{Addition, entriesGiven, bodyGiven, formed, additionFault, givenFault}
+use Rattle.ultra_format.specs.Members.{bodyCheck}
+use Rattle.ultra_format.specs.Additions.{Addition, entriesGiven, bodyGiven, formed, additionCheck, givenCheck}
 use Rattle.ultra_format.specs.Additions.{Addition.addPlatform, Addition.addKernel, Addition.addMap, Addition.addModule, Addition.addCommandLine, Addition.addFramebuffer}
-use Rattle.ultra_format.proofs.Chains.{passed}
+use Rattle.refusals.proofs.Chains.{passed}
 use Rattle.ultra_format.proofs.Bodies.{lateFields, entries-written, length-written}
 use Rattle.ultra_format.proofs.Attributes.{attribute}
 use Rattle.ultra_format.proofs.Given.{platform-given, kernel-given, module-given, platform-back, kernel-back, module-back}
@@ -79,8 +80,8 @@ giving-body s (commandLine t) u h f = refl
 giving-body s (framebuffer b) u h f = refl
 giving-body s (other t) u h f = absurd (omega arith)
 
-pub giving-given : (g : Addition) → AdditionTyped g → additionFault g ≡ 0 → giving (bodyGiven g) ≡ g
-unfolding giving bodyGiven givenFault
+pub giving-given : (g : Addition) → AdditionTyped g → additionCheck g ≡ 0 → giving (bodyGiven g) ≡ g
+unfolding giving bodyGiven givenCheck
 giving-given (addPlatform r) t e = ap addPlatform (platform-back r (t .name .0))
 giving-given (addKernel r) t e = ap addKernel (kernel-back r (t .path .0))
 giving-given (addMap ns) t e = ap addMap (numbers-back ns (eqb-true (length ns % 3) 0 (passed (formed (addMap ns)) _ _ e .0)))
@@ -169,7 +170,7 @@ giving-typed s (framebuffer b) f =
     record { width = f .0; height = f .1 .0; pitch = f .1 .1 .0; bpp = f .1 .1 .1 .0; format = f .1 .1 .1 .1 .0; address = f .1 .1 .1 .1 .1 .0 }
 giving-typed s (other t) f = λ i. omega arith
 
--- ---- and has no fault
+-- ---- and breaks no rule
 pub giving-formed : (x : Body) → formed (giving x) ≡ true
 unfolding giving
 giving-formed (platform p) = refl
@@ -180,8 +181,8 @@ giving-formed (commandLine t) = refl
 giving-formed (framebuffer f) = refl
 giving-formed (other t) = refl
 
-pub giving-clear : (s : ℕ) (x : Body) → AttributeMeets s x → s ≡ writtenSize x → bodyGiven (giving x) ≡ x → additionFault (giving x) ≡ 0
-unfolding givenFault
+pub giving-clear : (s : ℕ) (x : Body) → AttributeMeets s x → s ≡ writtenSize x → bodyGiven (giving x) ≡ x → additionCheck (giving x) ≡ 0
+unfolding givenCheck bodyCheck
 giving-clear s x m z e =
     let q = body-passes s x (record { suits = m .suits; valuesHold = m .valuesHold; textsHold = m .textsHold; rangesHold = m .rangesHold; inOrder = m .inOrder }) in
     rw (giving-formed x, e, ← z) q

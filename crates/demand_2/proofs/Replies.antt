@@ -13,27 +13,27 @@ use borrow.Author.Tests.{leb-true, leb-false, ltb-true, ltb-false, eqb-true, le-
 use Rattle.words.specs.Words.{numberAt, u32At, numbersIn}
 use Rattle.key_value_text.specs.Lines.{Line, linesBytes}
 use Rattle.byte_layout.specs.Stored.{bytesAt}
-use Rattle.ultra_format.specs.Refusals.{MISSING}
-use Rattle.ultra_format.specs.Answers.{refusal, refused, orRefused}
+use Rattle.refusals.specs.Refusals.{MISSING}
+use Rattle.refusals.specs.Answers.{refusal, refused, orRefused}
 use Rattle.ultra_format.specs.Contexts.{Body, Context, count, sizeAt, used, total}
 use Rattle.ultra_format.specs.Layouts.{roomOf, written}
 use Rattle.ultra_format.specs.Rules.{Meets}
 use Rattle.ultra_format.specs.Decoding.{pick, start, storedCount}
 use Rattle.ultra_format.specs.Plain.{writtenSize}
 use Rattle.ultra_format.specs.Additions.{Addition, bodyGiven, formed, sizeGiven}
-use Rattle.ultra_format.specs.declared.Answer.{Answer}
-use Rattle.ultra_format.specs.declared.Answer.the-variants.{Done}
-use Rattle.ultra_format.proofs.Chains.{both-hold}
+use Rattle.refusals.specs.declared.Answer.{Answer}
+use Rattle.refusals.specs.declared.Answer.the-variants.{Done}
+use Rattle.refusals.proofs.Chains.{both-hold}
 use Rattle.ultra_format.proofs.Decoded.{starts, decoded-only}
-use Rattle.ultra_reading.specs.Reading.{headFault, boundsFault, usedLength, versionOf, withVersion, readingOf}
-use Rattle.ultra_reading.specs.Stepping.{cursorFault, stepRefused, cursorAt, headerAt, stepOf}
+use Rattle.ultra_reading.specs.Reading.{headCheck, boundsCheck, usedLength, versionOf, withVersion, readingOf}
+use Rattle.ultra_reading.specs.Stepping.{cursorCheck, stepRefused, cursorAt, headerAt, stepOf}
 use Rattle.ultra_reading.specs.declared.cursor.Cursor.{Cursor}
 use Rattle.ultra_reading.specs.declared.cursor.Step.{Step}
 use Rattle.ultra_reading.specs.declared.cursor.Step.the-variants as stepping
 use Rattle.ultra_reading.proofs.HeadLaws.{HeadHolds, accepted-head, stop-missing, head-passes, head-refuses}
 use Rattle.ultra_reading.proofs.BoundsLaws.{bounds-pass}
 use Rattle.ultra_reading.proofs.StepLaws.{only-bounds, step-next}
-use Rattle.ultra_acceptance.specs.Acceptance.{HeldBy}
+use Rattle.ultra_acceptance.specs.Acceptance.{HoldsContext}
 use Rattle.ultra_acceptance.proofs.Walked.{Accepted, accepted}
 use Rattle.ultra_acceptance.proofs.Acceptance.{complete, rehoused, held-reading}
 use Rattle.ultra_questions.specs.Parts.{noPart}
@@ -73,10 +73,10 @@ by-count c fewest {r} {x} {y} p q = go (leb fewest (count c)) refl
     go true e = p (leb-true fewest (count c) e)
     go false e = q (leb-false fewest (count c) e)
 
--- what a step answers behind the tests of the head and the index
+-- what a step answers after the tests of the head and the index
 abbrev stepFrom : List ℕ → Cursor → Step
 stepFrom b k =
-    stepRefused (cursorFault b (k .offset)) (k .offset) (stepping.Attribute (headerAt b (k .offset)) (cursorAt (k .index + 1) (k .offset + u32At b (k .offset + 4))))
+    stepRefused (cursorCheck b (k .offset)) (k .offset) (stepping.Attribute (headerAt b (k .offset)) (cursorAt (k .index + 1) (k .offset + u32At b (k .offset + 4))))
 
 module _ (d : List ℕ) (gs : List Addition) (f : Follows d gs) where
   abbrev now : Context
@@ -92,10 +92,10 @@ module _ (d : List ℕ) (gs : List Addition) (f : Follows d gs) where
   head : HeadHolds 0 d
   head = accepted-head 0 d (used now) (f .usedIs)
 
-  head-enough : (fewest : ℕ) → fewest ≤ count now → headFault fewest d ≡ 0
+  head-enough : (fewest : ℕ) → fewest ≤ count now → headCheck fewest d ≡ 0
   head-enough fewest l = sym (head-passes fewest d (head .room) (head .major) (head .most) (omega (arith, counts)))
 
-  head-missing : (fewest : ℕ) → count now < fewest → headFault fewest d ≡ MISSING
+  head-missing : (fewest : ℕ) → count now < fewest → headCheck fewest d ≡ MISSING
   head-missing fewest l = sym (stop-missing fewest d (head .room) (head .major) (head .most) (omega (arith, counts)))
 
   missing : (fewest : ℕ) → count now < fewest → usedLength fewest d ≡ tooFew
@@ -103,7 +103,7 @@ module _ (d : List ℕ) (gs : List Addition) (f : Follows d gs) where
       let e = head-missing fewest l in
       sym (head-refuses fewest d (λ z. omega arith)) ∙ ap (λ (n : ℕ). refused n 0) e
 
-  pub held-two : 2 ≤ count now → HeldBy 2 d now
+  pub held-two : 2 ≤ count now → HoldsContext 2 d now
   held-two l = (enough-meets 2 l, f .held .1)
 
   asked : 2 ≤ count now → ByContext d now
@@ -148,7 +148,7 @@ module _ (d : List ℕ) (gs : List Addition) (f : Follows d gs) where
   -- where a step's answer is determined, its cursor lies within the list or falls to a test that looks at no byte
   step-within : (k : Cursor) → 2 ≤ count now → k .index < count now → (Undetermined (roomOf d) now (step k) → ⊥)
       → stepFrom d k ≡ stepWithin (roomOf d) (written now) k
-  unfolding cursorFault boundsFault
+  unfolding cursorCheck boundsCheck
   step-within k two l n = go (leb 8 (k .offset) && eqb (k .offset % 8) 0) (leb (k .offset + 8) (roomOf d)) refl refl
     where
       front : (o : ℕ) → o + 4 ≤ used now → u32At d o ≡ u32At (written now) o

@@ -13,7 +13,7 @@ use Rattle.ultra_format.specs.Examples.{listed, listedBytes, sixTypes, sixTypes
 use Rattle.ultra_format.specs.Additions.{Addition}
 use Rattle.ultra_format.proofs.Witness.{listed-meets, listed-opens, listed-plain, six-types-meets, six-types-opens, six-types-plain}
 use Rattle.ultra_questions.specs.MapQuestion.{numbers}
-use Rattle.demand_3.specs.Demand3.{Held}
+use Rattle.ultra_acceptance.specs.Acceptance.{HoldsContext}
 use Rattle.demand_2.specs.Calls.{run}
 use Rattle.demand_2.specs.CallsFromC.{after}
 use Rattle.demand_2.specs.Model.{giving}
@@ -25,7 +25,7 @@ use Rattle.demand_2.proofs.Demand2.{demand-2}
 use Rattle.demand_2.proofs.EveryCall.{every-kind, widest, from-c-and-members, any-arguments, built-plain, two-are-enough, head, other, other-kept}
 
 -- the records that are read back of plain bytes build them, in as many bytes as are used
-module _ (bytes : List ℕ) (c : Context) (n : ℕ) (h : Held bytes c) (p : Plain bytes c) (l : length bytes ≡ n) (u : used c ≡ n) where
+module _ (bytes : List ℕ) (c : Context) (n : ℕ) (h : HoldsContext 2 bytes c) (p : Plain bytes c) (l : length bytes ≡ n) (u : used c ≡ n) where
   room : (b : List ℕ) → length b ≡ n → used c ≤ roomOf b
   room b e = omega (arith, h .0 .within)
 
@@ -49,7 +49,7 @@ module _ (bytes : List ℕ) (c : Context) (n : ℕ) (h : Held bytes c) (p : Plai
       }
 
 -- what is read back at an index
-one : (bytes : List ℕ) (c : Context) (h : Held bytes c) (p : Plain bytes c) (i : ℕ) → i < count c → recordAt bytes i ≡ giving (bodyAt c i) ∷ []
+one : (bytes : List ℕ) (c : Context) (h : HoldsContext 2 bytes c) (p : Plain bytes c) (i : ℕ) → i < count c → recordAt bytes i ≡ giving (bodyAt c i) ∷ []
 one bytes c h p i k = record-at bytes c h i k (p .types i k)
 
 listed-back : recordsBack listedBytes (count listed) ≡ listedAdditions

@@ -9,7 +9,7 @@ use lib.ListN.{length}
 use Rattle.byte_layout.specs.Stored.{bytesAt}
 use Rattle.ultra_format.specs.Contexts.{Body}
 use Rattle.ultra_format.specs.Additions.{Addition, platformOf, kernelOf, mapOf, moduleOf, mapFormed, guidsFormed}
-use Rattle.ultra_format.specs.declared.Answer.{Answer}
+use Rattle.refusals.specs.declared.Answer.{Answer}
 use Rattle.ultra_reading.specs.Reading.{readingOf}
 use Rattle.ultra_reading.specs.Stepping.{stepOf}
 use Rattle.ultra_reading.specs.declared.Reading.{Reading}

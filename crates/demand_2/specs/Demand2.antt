@@ -16,8 +16,8 @@ use mathlib.Core.Logic.{_⊎_}
 use mathlib.Core.List.{List, [], _∷_, _++_}
 use lib.ListN.{length, getD, take}
 use lib.Dec.{eqb}
-use Rattle.ultra_format.specs.Refusals.{SHORT, COUNT}
-use Rattle.ultra_format.specs.Answers.{refused, numberOf}
+use Rattle.refusals.specs.Refusals.{SHORT, COUNT}
+use Rattle.refusals.specs.Answers.{refused, numberOf}
 use Rattle.ultra_format.specs.Contexts.{Context, count, used}
 use Rattle.byte_layout.specs.Fields.{cells, SilentAt}
 use Rattle.ultra_format.specs.Layouts.{attributeFields, roomOf, written}
@@ -25,19 +25,19 @@ use Rattle.ultra_format.specs.Plain.{Plain}
 use Rattle.ultra_format.specs.Decoding.{pick, storedCount}
 use Rattle.ultra_format.specs.Additions.{Addition, sizeGiven, attributeGiven, bodyGiven}
 use Rattle.ultra_format.specs.Additions.{Addition.addPlatform, Addition.addKernel, Addition.addMap, Addition.addModule, Addition.addCommandLine, Addition.addFramebuffer}
-use Rattle.ultra_format.specs.declared.Refusal.{Refusal}
-use Rattle.ultra_format.specs.declared.Answer.{Answer}
-use Rattle.ultra_format.specs.declared.Answer.the-variants.{Done, Refused}
+use Rattle.refusals.specs.declared.Refusal.{Refusal}
+use Rattle.refusals.specs.declared.Answer.{Answer}
+use Rattle.refusals.specs.declared.Answer.the-variants.{Done, Refused}
 use Rattle.ultra_reading.specs.Reading.{usedLength, readingOf}
 use Rattle.ultra_reading.specs.declared.Reading.the-variants.{Accepted}
 use Rattle.ultra_reading.specs.declared.cursor.Cursor.{Cursor}
-use Rattle.ultra_acceptance.specs.Acceptance.{HeldBy, versionIn}
+use Rattle.ultra_acceptance.specs.Acceptance.{HoldsContext, versionIn}
 use Rattle.ultra_acceptance.specs.Steps.{StepsThrough}
 use Rattle.ultra_questions.specs.declared.attributes.AttributeAnswer.{AttributeAnswer}
 use Rattle.ultra_questions.specs.AttributeQuestion.{unanswered, attributeAnswer}
 use Rattle.words.specs.Words.{numbersAt}
 use Rattle.ultra_building.specs.Building.{begun, added}
-use Rattle.demand_3.specs.Demand3.{Held, partAt}
+use Rattle.demand_3.specs.Demand3.{partAt}
 use Rattle.demand_2.specs.Calls.{Members, membersBody, Call, Reply, run}
 use Rattle.demand_2.specs.Calls.{Call.begin, Call.add, Call.addMembers, Call.step}
 use Rattle.demand_2.specs.Calls.{Reply.answer}
@@ -54,7 +54,7 @@ pub record Follows (b : List ℕ) (gs : List Addition) : Type 0 where
   pub counted : storedCount b ≡ length gs
   pub usedIs : usedLength 0 b ≡ Done (used (contextGiven gs))
   -- the list meets the rules, all but the lower limit of the count, in the buffer's room, and opens the buffer
-  pub held : HeldBy 0 b (contextGiven gs)
+  pub held : HoldsContext 0 b (contextGiven gs)
 
 -- ---- the answers
 -- The list determines the answer of every call but one: a step with two attributes or more, by a cursor with an index below the count
@@ -119,7 +119,7 @@ pub record Rebuilt (b d : List ℕ) (c : Context) : Type 0 where
 -- ---- one more attribute
 -- b, which holds c, has become d by an add of g that answered n
 pub record Appended (b : List ℕ) (c : Context) (g : Addition) (d : List ℕ) (n : ℕ) : Type 0 where
-  pub held : HeldBy 0 d (record { major = c .major; minor = c .minor; attributes = c .attributes ++ (attributeGiven g ∷ []) })
+  pub held : HoldsContext 0 d (record { major = c .major; minor = c .minor; attributes = c .attributes ++ (attributeGiven g ∷ []) })
   pub answered : n ≡ used c + sizeGiven g
   -- "silent bytes of the new attribute are zero"
   pub zeros : (i : ℕ) → SilentAt (cells (attributeFields (attributeGiven g))) i → i < sizeGiven g → getD d (used c + i) 0 ≡ 0
@@ -167,8 +167,8 @@ pub record Demand2 : Type 0 where
   -- `Answer`; every other call is lent the buffer to read alone (`run`)
   pub refusals : (b : List ℕ) (k : Call) (a : Answer) → run k b .0 ≡ answer a → (numberOf a ≡ 0 → ⊥) → run k b .1 ≡ b
   -- beyond the order: adding to any buffer that holds a context, also one that another writer began, appends exactly the attribute given
-  pub appends : (b : List ℕ) (c : Context) (g : Addition) (n : ℕ) → HeldBy 0 b c → AdditionTyped g → added b g .0 ≡ Done n → Appended b c g (added b g .1) n
+  pub appends : (b : List ℕ) (c : Context) (g : Addition) (n : ℕ) → HoldsContext 0 b c → AdditionTyped g → added b g .0 ≡ Done n → Appended b c g (added b g .1) n
   -- "With two or more, it reads back as the records given"
   pub readsBack : (b : List ℕ) (ks : List AnyCall) → begun b .0 ≡ Done 8 → AllTyped ks → 2 ≤ length (listNow b ks) → ReadsBack (bufferNow b ks) (listNow b ks)
   -- "a plain context, built again from its reading, has the same bytes": into any buffer with room for it, and nothing is refused
-  pub rebuilds : (b d : List ℕ) (c : Context) → Held b c → Plain b c → used c ≤ roomOf d → Rebuilt b d c
+  pub rebuilds : (b d : List ℕ) (c : Context) → HoldsContext 2 b c → Plain b c → used c ≤ roomOf d → Rebuilt b d c

@@ -8,19 +8,19 @@ use lib.ListN.{length}
 use lib.Dec.{leb, ltb, eqb}
 use Rattle.words.specs.Words.{u32At, numbersIn}
 use Rattle.key_value_text.specs.Lines.{linesBytes}
-use Rattle.ultra_format.specs.Refusals.{unless, MISSING, HEADER}
-use Rattle.ultra_format.specs.Answers.{refusal, refused}
+use Rattle.refusals.specs.Refusals.{unless, MISSING, HEADER}
+use Rattle.refusals.specs.Answers.{refusal, refused}
 use Rattle.ultra_format.specs.Contexts.{Body, typeOf, Attribute, Context, count, attributeAt, bodyAt, startIn, used}
 use Rattle.ultra_format.specs.Contexts.{Body.platform, Body.kernel, Body.memoryMap, Body.moduleInfo, Body.commandLine, Body.framebuffer, Body.other}
 use Rattle.ultra_format.specs.Layouts.{written}
 use Rattle.ultra_format.specs.Decoding.{pick}
 use Rattle.ultra_format.specs.Plain.{writtenSize}
 use Rattle.ultra_format.specs.Records.{platformRecord, kernelRecord, moduleRecord, framebufferRecord}
-use Rattle.ultra_format.specs.Additions.{Addition, typeGiven, attributeGiven, bodyGiven, formed, givenFault}
+use Rattle.ultra_format.specs.Additions.{Addition, typeGiven, attributeGiven, bodyGiven, formed, givenCheck}
 use Rattle.ultra_format.specs.Additions.{Addition.addPlatform, Addition.addKernel, Addition.addMap, Addition.addModule, Addition.addCommandLine, Addition.addFramebuffer}
-use Rattle.ultra_format.specs.declared.Answer.{Answer}
-use Rattle.ultra_format.specs.declared.Answer.the-variants.{Done, Refused}
-use Rattle.ultra_reading.specs.Reading.{boundsFault}
+use Rattle.refusals.specs.declared.Answer.{Answer}
+use Rattle.refusals.specs.declared.Answer.the-variants.{Done, Refused}
+use Rattle.ultra_reading.specs.Reading.{boundsCheck}
 use Rattle.ultra_reading.specs.Stepping.{stepRefused, cursorAt, headerAt}
 use Rattle.ultra_reading.specs.declared.Reading.the-variants as readings
 use Rattle.ultra_reading.specs.declared.cursor.Cursor.{Cursor}
@@ -32,7 +32,7 @@ use Rattle.ultra_questions.specs.AttributeQuestion.{unanswered, startOrCount, w
 use Rattle.ultra_questions.specs.MapQuestion.{numbers, mapIn, overBytes}
 use Rattle.ultra_questions.specs.CommandLineQuestion.{commandLineIn, textIn}
 use Rattle.ultra_questions.specs.ModuleQuestion.{moduleIn}
-use Rattle.ultra_building.specs.Building.{placementFault}
+use Rattle.ultra_building.specs.Building.{appendCheck}
 use Rattle.ultra_listing.specs.Listing.{contextLines, refusedLines, textListed}
 use Rattle.demand_2.specs.Calls.{Members, membersFormed, membersBody, Call, Reply}
 use Rattle.demand_2.specs.Calls.{Call.begin, Call.add, Call.addMembers, Call.read, Call.step, Call.askAttribute, Call.askStart, Call.askPart, Call.copyMap, Call.copyMapBytes, Call.askLine, Call.locateLine, Call.askModule, Call.list, Call.askListingLength}
@@ -49,14 +49,14 @@ abbrev pub contextGiven : List Addition → Context
 contextGiven gs = record { major = 1; minor = 0; attributes = attributesGiven gs }
 
 -- the types of the list, the last first, in front of `before`
-unfoldable pub typesBehind : List ℕ → List Addition → List ℕ
-typesBehind before [] = before
-typesBehind before (g ∷ gs) = typesBehind (typeGiven g ∷ before) gs
+unfoldable pub typesAfter : List ℕ → List Addition → List ℕ
+typesAfter before [] = before
+typesAfter before (g ∷ gs) = typesAfter (typeGiven g ∷ before) gs
 
 -- ---- adding: "adding acts as one more attribute at the end of a list or is refused"
 -- the first of 17, 9 to 16 and 18, or 0, of members given, formed or not
 abbrev pub membersRefusal : ℕ → List Addition → Bool → Body → ℕ
-membersRefusal room gs formed x = placementFault (typesBehind [] gs) room (used (contextGiven gs)) (typeOf x) (givenFault formed x) (writtenSize x)
+membersRefusal room gs formed x = appendCheck (typesAfter [] gs) room (used (contextGiven gs)) (typeOf x) (givenCheck formed x) (writtenSize x)
 
 abbrev pub refusalOf : ℕ → List Addition → Addition → ℕ
 refusalOf room gs g = membersRefusal room gs (formed g) (bodyGiven g)
@@ -115,7 +115,7 @@ tooFew = refused MISSING 0
 -- a step from a cursor within the list: the tests of 5 to 8 on the bytes that the list is written in
 abbrev pub stepWithin : ℕ → List ℕ → Cursor → Step
 stepWithin room w k =
-    stepRefused (unless (leb 8 (k .offset) && eqb (k .offset % 8) 0) HEADER (boundsFault w room (k .offset))) (k .offset)
+    stepRefused (unless (leb 8 (k .offset) && eqb (k .offset % 8) 0) HEADER (boundsCheck w room (k .offset))) (k .offset)
     (stepping.Attribute (headerAt w (k .offset)) (cursorAt (k .index + 1) (k .offset + u32At w (k .offset + 4))))
 
 abbrev pub stepIn : ℕ → Context → Cursor → Step

@@ -10,22 +10,22 @@ use mathlib.Core.Bool.{true, false}
 use mathlib.Core.Path.{_≡_}
 use mathlib.Core.List.{List, [], _∷_, _++_}
 use lib.ListN.{length, take, getD, replicate}
-use Rattle.ultra_format.specs.Refusals.{SHORT}
-use Rattle.ultra_format.specs.Answers.{refused, numberOf}
+use Rattle.refusals.specs.Refusals.{SHORT}
+use Rattle.refusals.specs.Answers.{refused, numberOf}
 use Rattle.ultra_format.specs.Decoding.{contextOf}
 use Rattle.ultra_format.specs.Contexts.{Context}
 use Rattle.ultra_format.specs.Plain.{Plain}
 use Rattle.ultra_format.specs.Examples.{zeros, junk, listed, listedBytes, sixTypes, sixTypesBytes}
 use Rattle.ultra_format.specs.Additions.{Addition, bodyGiven}
 use Rattle.ultra_format.specs.Additions.{Addition.addPlatform, Addition.addKernel, Addition.addMap, Addition.addModule, Addition.addCommandLine, Addition.addFramebuffer}
-use Rattle.ultra_format.specs.declared.Answer.{Answer}
-use Rattle.ultra_format.specs.declared.Answer.the-variants.{Done}
+use Rattle.refusals.specs.declared.Answer.{Answer}
+use Rattle.refusals.specs.declared.Answer.the-variants.{Done}
 use Rattle.ultra_format.specs.declared.records.PlatformRecord.{PlatformRecord}
 use Rattle.ultra_format.specs.declared.records.OptionalU64.the-variants as wide
 use Rattle.ultra_format.specs.declared.records.OptionalU8.the-variants as narrow
 use Rattle.ultra_reading.specs.Stepping.{cursorAt}
 use Rattle.ultra_building.specs.Building.{begun, added}
-use Rattle.demand_3.specs.Demand3.{Held}
+use Rattle.ultra_acceptance.specs.Acceptance.{HoldsContext}
 use Rattle.demand_3.specs.Witness.{everyPlatformRecord, everyKernelRecord, everyModuleRecord, everyFramebufferRecord, everyEntries, everyLine}
 use Rattle.ultra_acceptance.specs.Steps.{StepsThrough}
 use Rattle.demand_2.specs.Calls.{Members, membersBody, run, Reply.answer}
@@ -188,7 +188,7 @@ pub record Built (gs : List Addition) (c : Context) (bytes : List ℕ) (n : ℕ)
   pub built : (b : List ℕ) → length b ≡ n → after (fromRattle begin ∷ adds gs) b ≡ bytes
   pub accepted : (b : List ℕ) → length b ≡ n → AllSucceeded (replies (fromRattle begin ∷ adds gs) b)
   pub plain : Plain bytes c
-  pub holds : Held bytes c
+  pub holds : HoldsContext 2 bytes c
 
 -- after `everyCall`, in the least buffer and in one of more than 65,536 bytes
 pub record EveryKind : Type 0 where

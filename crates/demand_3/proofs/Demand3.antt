@@ -8,22 +8,23 @@ use lib.Dec.{ltb}
 use borrow.Author.Tests.{ltb-true, ltb-false, lt-ltb, le-ltb}
 use denote.Ref.{RefT}
 use Rattle.byte_layout.specs.Stored.{bytesAt}
-use Rattle.ultra_format.specs.Refusals.{COUNT}
-use Rattle.ultra_format.specs.Answers.{refused}
+use Rattle.refusals.specs.Refusals.{COUNT}
+use Rattle.refusals.specs.Answers.{refused}
 use Rattle.ultra_format.specs.Contexts.{Context, count, attributeAt, bodyAt, startIn, used}
 use Rattle.ultra_format.specs.Layouts.{roomOf}
 use Rattle.ultra_reading.specs.Reading.{readingValue}
+use Rattle.ultra_acceptance.specs.Acceptance.{HoldsContext}
 use Rattle.ultra_acceptance.proofs.Acceptance.{one-context, silent-bytes, reads-exactly, held-reading}
 use Rattle.ultra_questions.specs.declared.attributes.AttributeAnswer.{AttributeAnswer}
 use Rattle.ultra_questions.specs.Parts.{PartOf, LiesAt, bodyPart, partBytes}
 use Rattle.ultra_questions.specs.AttributeQuestion.{answered, unanswered, startOrCount, withMembers, attributeAnswer, PartHandedBack}
-use Rattle.demand_3.specs.Demand3.{Held, ReadingIs, SameReading, Demand3}
+use Rattle.demand_3.specs.Demand3.{ReadingIs, SameReading, Demand3}
 use Rattle.ultra_questions.proofs.PartCells.{part-bytes, slice-bytes, slice-empty}
 use Rattle.ultra_questions.proofs.ByContext.{questions-by-context}
 use Rattle.demand_3.proofs.Faithful.{determined}
 
 -- ---- the answers, by the context that the buffer holds
-module _ (b : List ℕ) (c : Context) (h : Held b c) (i : ℕ) where
+module _ (b : List ℕ) (c : Context) (h : HoldsContext 2 b c) (i : ℕ) where
   held-answer : attributeAnswer b i ≡ withMembers (attributeAt c i) (startOrCount c i)
   held-answer = questions-by-context b c h .attributes i
 
@@ -46,7 +47,7 @@ module _ (b : List ℕ) (c : Context) (h : Held b c) (i : ℕ) where
     slice-beyond : count c ≤ i → lent .now ≡ []
     slice-beyond k = slice-empty lent s (attributeAnswer b i .part) (ap (λ (a : AttributeAnswer). a .part) (beyond k)) slice
 
-reads : (b : List ℕ) (c : Context) → Held b c → ReadingIs b c
+reads : (b : List ℕ) (c : Context) → HoldsContext 2 b c → ReadingIs b c
 reads b c h =
     record {
       whole = held-reading b c h;
@@ -58,7 +59,7 @@ reads b c h =
     }
 
 -- ---- two buffers that hold one context are read alike
-module _ (b d : List ℕ) (c : Context) (g : Held b c) (h : Held d c) where
+module _ (b d : List ℕ) (c : Context) (g : HoldsContext 2 b c) (h : HoldsContext 2 d c) where
   answers : (i : ℕ) → attributeAnswer d i ≡ attributeAnswer b i
   answers i = held-answer d c h i ∙ sym (held-answer b c g i)
 

@@ -12,8 +12,8 @@ use lib.Seq.{ext-getD}
 use lib.Dec.{leb, eqb}
 use borrow.Author.Tests.{leb-true, leb-false, ne-eqb}
 use Rattle.byte_layout.specs.Fields.{Fits}
-use Rattle.ultra_format.specs.Refusals.{COUNT}
-use Rattle.ultra_format.specs.Answers.{refused, numberOf}
+use Rattle.refusals.specs.Refusals.{COUNT}
+use Rattle.refusals.specs.Answers.{refused, numberOf}
 use Rattle.ultra_format.specs.Contexts.{Body, typeOf, Attribute, Context, count, attributeAt, sizeAt, bodyAt, startIn, used}
 use Rattle.ultra_format.specs.Contexts.{Body.platform, Body.kernel, Body.memoryMap, Body.moduleInfo, Body.commandLine, Body.framebuffer, Body.other}
 use Rattle.ultra_format.specs.Layouts.{bodyFields}

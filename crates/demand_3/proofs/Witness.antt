@@ -11,20 +11,20 @@ use Rattle.byte_layout.specs.Fields.{Cell, Cell.byte, Cell.silent, cells, fille
 use Rattle.byte_layout.specs.Stored.{bytesAt}
 use Rattle.byte_layout.proofs.Cells.{not-silent, length-filled}
 use Rattle.byte_layout.proofs.FieldLaws.{length-cells}
-use Rattle.ultra_format.specs.Refusals.{COUNT}
-use Rattle.ultra_format.specs.Answers.{refused}
+use Rattle.refusals.specs.Refusals.{COUNT}
+use Rattle.refusals.specs.Answers.{refused}
 use Rattle.ultra_format.specs.Contexts.{typeAt, attributeAt, startIn, used, total}
 use Rattle.ultra_format.specs.Layouts.{layout, entriesFields, written}
 use Rattle.ultra_format.specs.Records.{recordsOf}
 use Rattle.ultra_format.specs.Examples.{everyType, everyTypeBytes, junk}
 use Rattle.ultra_format.proofs.Attributes.{sized, width-layout}
 use Rattle.ultra_format.proofs.Witness.{noisy, every-type-bytes, every-type-laid, every-type-meets, every-type-opens, silent-zero}
-use Rattle.ultra_acceptance.specs.Acceptance.{DiffersInSilence}
+use Rattle.ultra_acceptance.specs.Acceptance.{HoldsContext, DiffersInSilence}
 use Rattle.ultra_questions.specs.Parts.{bodyPart, partBytes}
 use Rattle.ultra_questions.specs.declared.attributes.AttributeAnswer.{AttributeAnswer}
 use Rattle.ultra_questions.specs.AttributeQuestion.{answered, unanswered, attributeAnswer, PartHandedBack}
 use Rattle.ultra_questions.proofs.AttributeLaws.{part-inside}
-use Rattle.demand_3.specs.Demand3.{Held, partAt, ReadingIs, SameReading}
+use Rattle.demand_3.specs.Demand3.{partAt, ReadingIs, SameReading}
 use Rattle.demand_3.specs.Witness.{everyAnswers, everyEntries, everyLine, lentAt, Witnessed}
 use Rattle.demand_3.proofs.Demand3.{demand-3}
 
@@ -57,7 +57,7 @@ laid : (i : ℕ) → getD (noisy everyCells ++ junk 5) i 0 ≡ getD everyTypeByt
 unfolding everyCells
 laid i = ap (λ (l : List ℕ). getD l i 0) every-type-laid
 
-holds : Held everyTypeBytes everyType
+holds : HoldsContext 2 everyTypeBytes everyType
 holds = (every-type-meets, every-type-opens)
 
 differs : DiffersInSilence everyType everyTypeBytes (written everyType)
@@ -67,7 +67,7 @@ differs = (omega (arith, length-filled everyCells, wide), λ i h n. filled-same 
 differs-back : DiffersInSilence everyType (written everyType) everyTypeBytes
 differs-back = (omega (arith, every-type-meets .within), λ i h n. sym (differs .1 i h n))
 
-holds-written : Held (written everyType) everyType
+holds-written : HoldsContext 2 (written everyType) everyType
 holds-written = demand-3 .silent everyTypeBytes (written everyType) everyType holds differs .0
 
 same : SameReading everyTypeBytes (written everyType)

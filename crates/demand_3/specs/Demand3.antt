@@ -10,20 +10,15 @@ use mathlib.Core.Logic.{_↔_}
 use mathlib.Core.List.{List, []}
 use denote.Ref.{RefT}
 use Rattle.byte_layout.specs.Stored.{Bytes, bytesAt}
-use Rattle.ultra_format.specs.Refusals.{COUNT}
-use Rattle.ultra_format.specs.Answers.{refused}
+use Rattle.refusals.specs.Refusals.{COUNT}
+use Rattle.refusals.specs.Answers.{refused}
 use Rattle.ultra_format.specs.Contexts.{Context, count, attributeAt, bodyAt, startIn, used}
 use Rattle.ultra_reading.specs.Reading.{readingOf, readingNumber}
 use Rattle.ultra_reading.specs.declared.Version.{Version}
 use Rattle.ultra_reading.specs.declared.Reading.the-variants.{Accepted}
-use Rattle.ultra_acceptance.specs.Acceptance.{HeldBy, DiffersInSilence, versionIn}
+use Rattle.ultra_acceptance.specs.Acceptance.{HoldsContext, DiffersInSilence, versionIn}
 use Rattle.ultra_questions.specs.Parts.{PartOf, LiesAt, bodyPart, partBytes}
 use Rattle.ultra_questions.specs.AttributeQuestion.{answered, unanswered, attributeAnswer, PartHandedBack}
-
--- "some list meets the rules and its bytes open the buffer": 2 is the lower limit of the count, and the room is that of the buffer
--- (`roomOf`): "with at most its first 65,536 bytes considered"
-abbrev pub Held : List ℕ → Context → Type 0
-Held b c = HeldBy 2 b c
 
 -- the bytes at the place that the answer at index i names as its part
 abbrev pub partAt : List ℕ → ℕ → List ℕ
@@ -51,16 +46,17 @@ pub record SameReading (b d : List ℕ) : Type 0 where
   pub slices : (lent other s t : RefT (List ℕ)) (i : ℕ) → s .now ≡ b → t .now ≡ d → PartHandedBack lent s i → PartHandedBack other t i → other .now ≡ lent .now
 
 pub record Demand3 : Type 0 where
-  -- "reading accepts exactly when some list meets the rules and its bytes open the buffer"
-  pub accepts : (b : List ℕ) → Bytes b → (readingNumber (readingOf b) ≡ 0) ↔ ((c : Context) × Held b c)
+  -- "reading accepts exactly when some list meets the rules and its bytes open the buffer" (`HoldsContext`): 2 is the lower limit of the
+  -- count, and the room is that of the buffer: "with at most its first 65,536 bytes considered"
+  pub accepts : (b : List ℕ) → Bytes b → (readingNumber (readingOf b) ≡ 0) ↔ ((c : Context) × HoldsContext 2 b c)
   -- "Then there is no other such list and no other used length": whatever reading answers is the used length of any list that is held.
   -- 01: "a used length, that was made up falls to the uniqueness in demand 3"
-  pub oneList : (b : List ℕ) (c d : Context) → Held b c → Held b d → c ≡ d
-  pub oneLength : (b : List ℕ) (c : Context) (v : Version) (n : ℕ) → Held b c → readingOf b ≡ Accepted v n → n ≡ used c
+  pub oneList : (b : List ℕ) (c d : Context) → HoldsContext 2 b c → HoldsContext 2 b d → c ≡ d
+  pub oneLength : (b : List ℕ) (c : Context) (v : Version) (n : ℕ) → HoldsContext 2 b c → readingOf b ≡ Accepted v n → n ≡ used c
   -- "and the reading is that list with that used length"
-  pub reads : (b : List ℕ) (c : Context) → Held b c → ReadingIs b c
+  pub reads : (b : List ℕ) (c : Context) → HoldsContext 2 b c → ReadingIs b c
   -- "Bytes that document 01 calls silent never change it: a second buffer of at least the used length, equal to the first up to there
   -- apart from bytes silent in the first, is accepted with the same reading."
-  pub silent : (b d : List ℕ) (c : Context) → Held b c → DiffersInSilence c b d → Held d c × SameReading b d
+  pub silent : (b d : List ℕ) (c : Context) → HoldsContext 2 b c → DiffersInSilence c b d → HoldsContext 2 d c × SameReading b d
   -- no answer loses a member: lists that are read alike are one list, so that a reading tells every list from every other
-  pub faithful : (b d : List ℕ) (c e : Context) → Held b c → Held d e → SameReading b d → c ≡ e
+  pub faithful : (b d : List ℕ) (c e : Context) → HoldsContext 2 b c → HoldsContext 2 d e → SameReading b d → c ≡ e

@@ -10,26 +10,26 @@ use mathlib.Core.List.{List, [], _∷_, _++_}
 use lib.ListN.{getD}
 use denote.Ref.{RefT}
 use Rattle.byte_layout.specs.Stored.{Bytes}
-use Rattle.ultra_format.specs.Refusals.{COUNT}
-use Rattle.ultra_format.specs.Answers.{refused}
+use Rattle.refusals.specs.Refusals.{COUNT}
+use Rattle.refusals.specs.Answers.{refused}
 use Rattle.ultra_format.specs.Contexts.{typeAt, used}
 use Rattle.ultra_format.specs.Layouts.{Silent, written}
 use Rattle.ultra_format.specs.Decoding.{platformAt}
 use Rattle.ultra_format.specs.Records.{platformRecord, blankRecords}
 use Rattle.ultra_format.specs.Examples.{zeros, everyType, everyTypeBytes}
-use Rattle.ultra_format.specs.declared.Answer.{Answer}
-use Rattle.ultra_format.specs.declared.Answer.the-variants.{Done}
+use Rattle.refusals.specs.declared.Answer.{Answer}
+use Rattle.refusals.specs.declared.Answer.the-variants.{Done}
 use Rattle.ultra_format.specs.declared.records.Records.{Records}
 use Rattle.ultra_format.specs.declared.records.OptionalU64.the-variants as wide
 use Rattle.ultra_format.specs.declared.records.OptionalU8.the-variants as narrow
 use Rattle.ultra_reading.specs.Reading.{readingOf}
 use Rattle.ultra_reading.specs.declared.Reading.the-variants.{Accepted}
-use Rattle.ultra_acceptance.specs.Acceptance.{DiffersInSilence}
+use Rattle.ultra_acceptance.specs.Acceptance.{HoldsContext, DiffersInSilence}
 use Rattle.ultra_questions.specs.declared.part.Part.{Part}
 use Rattle.ultra_questions.specs.declared.attributes.AttributeAnswer.{AttributeAnswer}
 use Rattle.ultra_questions.specs.Parts.{part, noPart, PartOf}
 use Rattle.ultra_questions.specs.AttributeQuestion.{unanswered, attributeAnswer, PartHandedBack}
-use Rattle.demand_3.specs.Demand3.{Held, partAt, SameReading}
+use Rattle.demand_3.specs.Demand3.{partAt, SameReading}
 
 -- ---- the records of the context with every type, each beside blank ones
 abbrev pub everyPlatformRecord : Records
@@ -156,7 +156,7 @@ lentAt o l = record { ptr = (1, o); name = 0; now = l }
 
 pub record Witnessed : Type 0 where
   pub bytes : Bytes everyTypeBytes
-  pub holds : Held everyTypeBytes everyType
+  pub holds : HoldsContext 2 everyTypeBytes everyType
   -- types 1 to 7, in this order
   pub types : (i : ℕ) → i < 7 → typeAt everyType i ≡ suc i
   pub whole : readingOf everyTypeBytes ≡ Accepted (record { major = 2; minor = 7 }) 688
@@ -181,7 +181,7 @@ pub record Witnessed : Type 0 where
   pub noisy : (i : ℕ) → i < used everyType → Silent everyType i → (getD everyTypeBytes i 0 ≡ 165) × (getD (written everyType) i 0 ≡ 0)
   pub same : SameReading everyTypeBytes (written everyType)
   -- and back, from the zeros to the 165s, and from the used length on to five bytes more
-  pub holdsWritten : Held (written everyType) everyType
+  pub holdsWritten : HoldsContext 2 (written everyType) everyType
   pub differsBack : DiffersInSilence everyType (written everyType) everyTypeBytes
   pub sameBack : SameReading (written everyType) everyTypeBytes
   -- the slices of what is written, wherever it is lent

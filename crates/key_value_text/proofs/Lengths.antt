@@ -15,7 +15,7 @@ use Rattle.byte_layout.specs.Stored.{over}
 use Rattle.key_value_text.specs.Lines.{Value, Value.numbers, Value.text, Value.hex, Value.absent, Line, keyBytes, valueBytes, lineBytes, linesBytes}
 use Rattle.key_value_text.specs.Output.{State, next, put, puts}
 use Rattle.key_value_text.proofs.Puts.{each-append}
-use Rattle.key_value_text.specs.Spelling.{pick, each, digits, decimal, behind, joined, hexPair, isEscaped, spelled}
+use Rattle.key_value_text.specs.Spelling.{pick, each, digits, decimal, after, joined, hexPair, isEscaped, spelled}
 
 -- ---- where putting ends
 place-next : (n : ℕ) → n < 4294967295 → next n ≡ n + 1
@@ -60,7 +60,7 @@ each-short f k h (x ∷ l) = let r = each-short f k h l in simp length-append (o
 joined-short : (c : ℕ) (ns : List ℕ) → length (joined c ns) ≤ 21 * length ns
 joined-short c [] = omega arith
 joined-short c (n ∷ ns) =
-    let r = each-short (behind c) 21 (λ (m : ℕ). omega (arith, digits-short 20 m)) ns in
+    let r = each-short (after c) 21 (λ (m : ℕ). omega (arith, digits-short 20 m)) ns in
     simp length-append (omega (arith, digits-short 20 n))
 
 one-short : (b : ℕ) (t : Bool) → length (pick t (37 ∷ hexPair b) (b ∷ [])) ≤ 3

@@ -10,7 +10,7 @@ use lib.Seq.{drop-cons, set-out}
 use Rattle.byte_layout.specs.Stored.{bytesAt}
 use Rattle.key_value_text.specs.Lines.{Value, Line, line, keyBytes, valueBytes, lineBytes, linesBytes}
 use Rattle.key_value_text.specs.Output.{State, next, put, puts}
-use Rattle.key_value_text.specs.Spelling.{each, decimal, behind, joined}
+use Rattle.key_value_text.specs.Spelling.{each, decimal, after, joined}
 
 -- a byte past the end is counted, any other is put
 module _ (out : List ℕ) (to x r : ℕ) (e : r ≡ next to) where
@@ -35,16 +35,16 @@ unfolding puts
 puts-append s [] m = refl
 puts-append s (x ∷ l) m = puts-append (put s x) l m
 
--- one text behind another
-pub behind-it : (s t u : State) (l m : List ℕ) → t ≡ puts s l → u ≡ puts t m → u ≡ puts s (l ++ m)
-behind-it s t u l m e f = rw (puts-append s l m, ← e) f
+-- one text after another
+pub after-it : (s t u : State) (l m : List ℕ) → t ≡ puts s l → u ≡ puts t m → u ≡ puts s (l ++ m)
+after-it s t u l m e f = rw (puts-append s l m, ← e) f
 
--- one byte behind a text, and one in front of it
-pub byte-behind : (s t u : State) (l : List ℕ) (x : ℕ) → t ≡ puts s l → u ≡ put t x → u ≡ puts s (l ++ (x ∷ []))
-byte-behind s t u l x e f = behind-it s t u l (x ∷ []) e (f ∙ sym (puts-one t x))
+-- one byte after a text, and one in front of it
+pub byte-after : (s t u : State) (l : List ℕ) (x : ℕ) → t ≡ puts s l → u ≡ put t x → u ≡ puts s (l ++ (x ∷ []))
+byte-after s t u l x e f = after-it s t u l (x ∷ []) e (f ∙ sym (puts-one t x))
 
 pub byte-before : (s t u : State) (x : ℕ) (l : List ℕ) → t ≡ put s x → u ≡ puts t l → u ≡ puts s (x ∷ l)
-byte-before s t u x l e f = behind-it s t u (x ∷ []) l (e ∙ sym (puts-one s x)) f
+byte-before s t u x l e f = after-it s t u (x ∷ []) l (e ∙ sym (puts-one s x)) f
 
 pub two-bytes : (s t u : State) (x y : ℕ) → t ≡ put s x → u ≡ put t y → u ≡ puts s (x ∷ y ∷ [])
 two-bytes s t u x y e f = byte-before s t u x (y ∷ []) e (f ∙ sym (puts-one t y))
@@ -91,16 +91,16 @@ module _ (s : State) (c : ℕ) where
   joined-none [] h = refl
   joined-none (n ∷ ns) h = absurd (omega arith)
 
-  pub joined-first : (t : State) (ns : List ℕ) → (length ns ≡ 0 → ⊥) → t ≡ puts s (decimal (getD ns 0 0)) → puts t (each (behind c) (drop 1 ns)) ≡ puts s (joined c ns)
+  pub joined-first : (t : State) (ns : List ℕ) → (length ns ≡ 0 → ⊥) → t ≡ puts s (decimal (getD ns 0 0)) → puts t (each (after c) (drop 1 ns)) ≡ puts s (joined c ns)
   joined-first t [] h e = absurd (h refl)
-  joined-first t (n ∷ ns) h e = rw (puts-append s (decimal n) (each (behind c) ns), ← e)
+  joined-first t (n ∷ ns) h e = rw (puts-append s (decimal n) (each (after c) ns), ← e)
 
 -- ---- a line: its key, its value, its newline
 pub line-put : (s t u v : State) (k : List ℕ) (x : Value) → t ≡ puts s (keyBytes k) → u ≡ puts t (valueBytes x) → v ≡ put u 10 → v ≡ puts s (lineBytes (line k x))
 unfolding lineBytes
-line-put s t u v k x e f g = byte-behind s u v (keyBytes k ++ valueBytes x) 10 (behind-it s t u (keyBytes k) (valueBytes x) e f) g
+line-put s t u v k x e f g = byte-after s u v (keyBytes k ++ valueBytes x) 10 (after-it s t u (keyBytes k) (valueBytes x) e f) g
 
--- ---- lines, one behind the other
+-- ---- lines, one after the other
 pub each-append : {X : Type 0} (f : X → List ℕ) (l m : List X) → each f (l ++ m) ≡ each f l ++ each f m
 unfolding each
 each-append f [] m = refl
@@ -112,10 +112,10 @@ no-lines s = refl
 
 pub line-then : (s t r : State) (x : Line) (ls : List Line) → t ≡ puts s (lineBytes x) → r ≡ puts t (linesBytes ls) → r ≡ puts s (linesBytes (x ∷ ls))
 unfolding each
-line-then s t r x ls e f = behind-it s t r (lineBytes x) (linesBytes ls) e f
+line-then s t r x ls e f = after-it s t r (lineBytes x) (linesBytes ls) e f
 
 pub last-line : (s t : State) (x : Line) → t ≡ puts s (lineBytes x) → t ≡ puts s (linesBytes (x ∷ []))
 last-line s t x e = line-then s t t x [] e (no-lines t)
 
 pub lines-then : (s t r : State) (l m : List Line) → t ≡ puts s (linesBytes l) → r ≡ puts t (linesBytes m) → r ≡ puts s (linesBytes (l ++ m))
-lines-then s t r l m e f = rw (each-append lineBytes l m) (behind-it s t r (linesBytes l) (linesBytes m) e f)
+lines-then s t r l m e f = rw (each-append lineBytes l m) (after-it s t r (linesBytes l) (linesBytes m) e f)

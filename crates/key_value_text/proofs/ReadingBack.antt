@@ -10,7 +10,7 @@ use native.Mathlib.Nat.{div-lt-iff-lt-mul, pow-suc}
 use lib.Dec.{leb, ltb, eqb}
 use borrow.Author.Tests.{ltb-true, ltb-false, lt-ltb, le-ltb, leb-false, eqb-false, eq-eqb, ne-eqb}
 use Rattle.key_value_text.specs.Lines.{Value, Value.numbers, Value.text, Value.hex, Value.absent, Line, line, keyBytes, valueBytes, lineBytes}
-use Rattle.key_value_text.specs.Spelling.{ascii, pick, each, digits, decimal, behind, joined, hexDigit, hexPair, isEscaped, spelled}
+use Rattle.key_value_text.specs.Spelling.{ascii, pick, each, digits, decimal, after, joined, hexDigit, hexPair, isEscaped, spelled}
 use Rattle.key_value_text.specs.ReadingBack.{shifted, numberFrom, numberIn, numbersFrom, numbersIn, hexValue, bytesIn, Place.atByte, Place.atFirst, Place.atSecond, textFrom, textIn, before, cut, All, Short, Byte, Differs, Separated, ReadsBack, largest, EndsAtNewline, ReadsBackWidest}
 use Rattle.key_value_text.proofs.Digits.{one-digit, more-digits, escaped-byte, plain-byte}
 
@@ -70,14 +70,14 @@ digits-pass c n (d ∷ ds) l h a = rw (ne-eqb d c (λ e. omega (arith, a .0))) (
 number-pass : (c n : ℕ) (l : List ℕ) → c < 48 → Short n → numbersFrom c 0 (decimal n ++ l) ≡ numbersFrom c n l
 number-pass c n l h s = digits-pass c 0 (decimal n) l h (all-digits 20 n) ∙ ap (λ (m : ℕ). numbersFrom c m l) (number-back 20 n s)
 
-numbers-pass : (c n : ℕ) (ns : List ℕ) → c < 48 → All Short ns → numbersFrom c n (each (behind c) ns) ≡ n ∷ ns
+numbers-pass : (c n : ℕ) (ns : List ℕ) → c < 48 → All Short ns → numbersFrom c n (each (after c) ns) ≡ n ∷ ns
 unfolding All numbersFrom each
 numbers-pass c n [] h a = refl
 numbers-pass c n (m ∷ ns) h a =
-    rw (eq-eqb c c refl) (ap (λ (l : List ℕ). n ∷ l) (number-pass c m (each (behind c) ns) h (a .0) ∙ numbers-pass c m ns h (a .1)))
+    rw (eq-eqb c c refl) (ap (λ (l : List ℕ). n ∷ l) (number-pass c m (each (after c) ns) h (a .0) ∙ numbers-pass c m ns h (a .1)))
 
 numbers-back : (c n : ℕ) (ns : List ℕ) → c < 48 → Short n → All Short ns → numbersIn c (joined c (n ∷ ns)) ≡ n ∷ ns
-numbers-back c n ns h s a = number-pass c n (each (behind c) ns) h s ∙ numbers-pass c n ns h a
+numbers-back c n ns h s a = number-pass c n (each (after c) ns) h s ∙ numbers-pass c n ns h a
 
 -- ---- hexadecimal digits
 hex-by : (d : ℕ) (t : Bool) → ltb d 10 ≡ t → d < 16 → hexValue (hexDigit d) ≡ d
@@ -146,7 +146,7 @@ joined-clean : (c : ℕ) (ns : List ℕ) → Differs 10 c → All (Differs 10) (
 unfolding All
 joined-clean c [] h = tt
 joined-clean c (n ∷ ns) h =
-    all-append (Differs 10) (decimal n) (each (behind c) ns) (digits-clean n) (all-each (Differs 10) (behind c) (λ m. (h, digits-clean m)) ns)
+    all-append (Differs 10) (decimal n) (each (after c) ns) (digits-clean n) (all-each (Differs 10) (after c) (λ m. (h, digits-clean m)) ns)
 
 value-clean : (v : Value) → Separated v → All (Differs 10) (valueBytes v)
 unfolding All valueBytes

@@ -10,7 +10,7 @@ use Rattle.key_value_text.specs.Spelling.{pick}
 abbrev pub State : Type 0
 State = List ℕ × ℕ
 
--- the place behind one; it stays at the last that has 32 bits
+-- the place after one; it stays at the last that has 32 bits
 unfoldable pub next : ℕ → ℕ
 next at = pick (ltb at 4294967295) (at + 1) at
 

@@ -10,7 +10,7 @@ use Rattle.key_value_text.specs.Spelling.{ascii, pick, each, decimal, jo
 use Rattle.key_value_text.specs.Lines.{Value, Value.numbers, Value.text, Value.hex, Value.absent, Line, line, valueBytes, lineBytes}
 
 -- ---- what bytes say
--- n with one digit more behind it
+-- n with one digit more after it
 abbrev pub shifted : ℕ → ℕ → ℕ
 shifted n d = 10 * n + (d - code "0")
 
@@ -37,7 +37,7 @@ bytesIn [] = []
 bytesIn (x ∷ []) = []
 bytesIn (x ∷ y ∷ l) = (16 * hexValue x + hexValue y) ∷ bytesIn l
 
--- where a text is read: at a byte, behind a `%`, or behind the first digit of an escape, which said v
+-- where a text is read: at a byte, after a `%`, or after the first digit of an escape, which said v
 pub data Place : Type 0 where
   atByte : Place
   atFirst : Place
@@ -55,7 +55,7 @@ textIn l = textFrom atByte l
 abbrev pub before : ℕ → List ℕ × List ℕ → List ℕ × List ℕ
 before x p = (x ∷ p .0, p .1)
 
--- what stands before the first c, and what stands behind it
+-- what stands before the first c, and what stands after it
 unfoldable pub cut : ℕ → List ℕ → List ℕ × List ℕ
 cut c [] = ([], [])
 cut c (x ∷ l) = pick (eqb x c) ([], l) (before x (cut c l))
@@ -87,7 +87,7 @@ pub record ReadsBack : Type 0 where
   pub numbers : (c n : ℕ) (ns : List ℕ) → c < code "0" → Short n → All Short ns → numbersIn c (joined c (n ∷ ns)) ≡ n ∷ ns
   pub hex : (l : List ℕ) → All Byte l → bytesIn (each hexPair l) ≡ l
   pub text : (t : List ℕ) → All Byte t → textIn (each spelled t) ≡ t
-  -- a line's key ends with its first `=`, and its value with the first newline behind that
+  -- a line's key ends with its first `=`, and its value with the first newline after that
   pub key : (x : Line) (rest : List ℕ) → All (Differs (code "=")) (x .key) → cut (code "=") (lineBytes x ++ rest) ≡ (x .key, valueBytes (x .value) ++ (code "\n" ∷ rest))
   pub value : (v : Value) (rest : List ℕ) → Separated v → cut (code "\n") (valueBytes v ++ (code "\n" ∷ rest)) ≡ (valueBytes v, rest)
 

@@ -19,7 +19,7 @@ codes s i (suc n) = code (charAt s i) ∷ codes s (suc i) n
 abbrev pub ascii : String → List ℕ
 ascii s = codes s 0 (len s)
 
--- what each element of a list is spelled as, one behind the other
+-- what each element of a list is spelled as, one after the other
 unfoldable pub each : {X : Type 0} → (X → List ℕ) → List X → List ℕ
 each f [] = []
 each f (x ∷ l) = f x ++ each f l
@@ -35,13 +35,13 @@ abbrev pub decimal : ℕ → List ℕ
 decimal n = digits 20 n
 
 -- a number with the separator in front, as every one but the first has
-abbrev pub behind : ℕ → ℕ → List ℕ
-behind separator n = separator ∷ decimal n
+abbrev pub after : ℕ → ℕ → List ℕ
+after separator n = separator ∷ decimal n
 
 -- numbers with a separator between them
 abbrev pub joined : ℕ → List ℕ → List ℕ
 joined separator [] = []
-joined separator (n ∷ ns) = decimal n ++ each (behind separator) ns
+joined separator (n ∷ ns) = decimal n ++ each (after separator) ns
 
 -- ---- raw bytes: two digits a byte, "64 capital hex digits" for two GUIDs
 -- a digit below 16: `0` to `9`, then `A` to `F`

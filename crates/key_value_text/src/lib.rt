@@ -1,5 +1,5 @@
 // key=value lines, written into a lent output: decimal numbers, texts with escapes, raw bytes in hexadecimal. No format in particular is
-// here. Each function puts its bytes from the place `to` on and answers the place behind them; what is past the output's end is counted
+// here. Each function puts its bytes from the place `to` on and answers the place after them; what is past the output's end is counted
 // and not put.
 mod lines;
 mod output;

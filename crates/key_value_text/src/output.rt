@@ -2,7 +2,7 @@
 ghost use mathlib.Core.Path.{_≡_};
 ghost use Rattle.key_value_text.specs.Output.{next, put, puts};
 
-// The place behind one: it stays at the last.
+// The place after one: it stays at the last.
 fn next(at: u32) -> u32
     ensures { λ r. ⌜ r ≡ next at ⌝ }
 {

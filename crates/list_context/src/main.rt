@@ -4,7 +4,7 @@ ghost use lib.ListN.{length};
 ghost use Rattle.ultra_listing.specs.Listing.{listingMost};
 use libc::STDIN_FILENO;
 use libc::STDOUT_FILENO;
-use ultra_format::Answer;
+use refusals::Answer;
 
 // Prints the listing of `input`, which is made in `text`: no listing is longer (`ListingFits`), so none is refused.
 fn print(input: &[u8], text: &mut [u8])

@@ -3,22 +3,23 @@
 use mathlib.Core.Path.{refl}
 use Rattle.words.specs.Words.{numberAt, numbersAt, numbersBytes}
 use Rattle.byte_layout.specs.Stored.{textAt, bytesAt}
-use Rattle.ultra_format.specs.Members.{every, sizeSuits, values, kernelValues, moduleValues, bppSuits, framebufferValues, texts, asciiText, pathText, ranges, ordered, entriesOrdered, bodyFault}
+use Rattle.ultra_format.specs.Members.{every, sizeSuits, values, kernelValues, moduleValues, bppSuits, framebufferValues, texts, asciiText, pathText, ranges, ordered, entriesOrdered, bodyCheck}
 use Rattle.ultra_format.specs.Contexts.{total}
-use Rattle.ultra_format.specs.Places.{placed, occurs, placeFault}
+use Rattle.ultra_format.specs.Places.{placed, occurs, placeCheck}
 use Rattle.ultra_format.specs.Decoding.{entriesAt, decoded, start, typesBefore, attributesFrom, contextOf}
-use Rattle.ultra_reading.specs.Reading.{headFault, boundsFault, attributeFault, attributesAnswer, usedLength, readingOf}
-use Rattle.ultra_reading.specs.Stepping.{cursorFault, stepOf}
+use Rattle.ultra_reading.specs.Reading.{headCheck, boundsCheck, attributeCheck, attributesAnswer, usedLength, readingOf}
+use Rattle.ultra_reading.specs.Stepping.{cursorCheck, stepOf}
 use Rattle.ultra_questions.specs.Parts.{bodyPart}
 use Rattle.ultra_questions.specs.Searching.{first}
 use Rattle.ultra_questions.specs.AttributeQuestion.{attributeStart}
 use Rattle.ultra_questions.specs.CommandLineQuestion.{commandLinePart}
 use Rattle.ultra_questions.specs.MapQuestion.{numbers, mapCopied, mapCopiedBytes}
-use Rattle.ultra_questions.specs.ModuleQuestion.{covers, moduleHolding}
+use Rattle.address_ranges.specs.Ranges.{covers}
+use Rattle.ultra_questions.specs.ModuleQuestion.{moduleHolding}
 use Rattle.ultra.specs.Examples.{Examples}
 
 pub examples : Examples
-unfolding numberAt numbersAt numbersBytes textAt bytesAt entriesAt every sizeSuits values kernelValues moduleValues bppSuits framebufferValues texts asciiText pathText ranges ordered entriesOrdered bodyFault placed occurs placeFault decoded start typesBefore attributesFrom contextOf total first bodyPart headFault boundsFault attributeFault attributesAnswer usedLength readingOf cursorFault stepOf attributeStart commandLinePart numbers mapCopied mapCopiedBytes covers moduleHolding
+unfolding numberAt numbersAt numbersBytes textAt bytesAt entriesAt every sizeSuits values kernelValues moduleValues bppSuits framebufferValues texts asciiText pathText ranges ordered entriesOrdered bodyCheck placed occurs placeCheck decoded start typesBefore attributesFrom contextOf total first bodyPart headCheck boundsCheck attributeCheck attributesAnswer usedLength readingOf cursorCheck stepOf attributeStart commandLinePart numbers mapCopied mapCopiedBytes covers moduleHolding
 examples =
     record {
       used = refl;

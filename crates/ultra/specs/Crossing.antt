@@ -3,8 +3,8 @@
 -- Assumes nothing.
 use Prim.Native.Nat.{ℕ, _+_, _*_}
 use mathlib.Core.List.{List}
-use Rattle.ultra_format.specs.Answers.{numberOf, valueOf}
-use Rattle.ultra_format.specs.declared.Answer.{Answer}
+use Rattle.refusals.specs.Answers.{numberOf, valueOf}
+use Rattle.refusals.specs.declared.Answer.{Answer}
 use Rattle.ultra_reading.specs.Reading.{readingNumber, readingValue}
 use Rattle.ultra_reading.specs.Stepping.{stepNumber, stepValue}
 use Rattle.ultra_reading.specs.declared.Reading.{Reading}

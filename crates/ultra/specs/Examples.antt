@@ -26,7 +26,7 @@ pub record Examples : Type 0 where
   pub used : readingCrossed (readingOf listedBytes) ≡ 480
   -- "H alone: HEADER at 8": 5 × 2^32 + 8
   pub header : readingCrossed (readingOf head) ≡ 21474836488
-  -- the kernel stands behind the platform's 88 bytes; behind the last of four attributes is the end
+  -- the kernel stands after the platform's 88 bytes; after the last of four attributes is the end
   pub next : stepCrossed (stepOf listedBytes (cursorAt 0 8)) ≡ 96
   pub end : stepCrossed (stepOf listedBytes (cursorAt 4 480)) ≡ 0
   pub kernel : answerCrossed (attributeStart listedBytes 1) ≡ 96
@@ -34,7 +34,7 @@ pub record Examples : Type 0 where
   pub past : answerCrossed (attributeStart listedBytes 4) ≡ 12884902368
   -- "cmdline=quiet", five bytes at 472: 472 × 2^32 + 5
   pub line : partCrossed (commandLinePart listedBytes) ≡ 2027224563717
-  -- one entry; 31 bytes count as three numbers, and the seven behind them stay
+  -- one entry; 31 bytes count as three numbers, and the seven after them stay
   pub copied : crossed (mapCopiedBytes listedBytes (replicate 31 165)) ≡ (1, rangeBytes ++ replicate 7 165)
   -- 23 bytes count as two: 18 × 2^32 + 480
   pub short : crossed (mapCopiedBytes listedBytes (replicate 23 165)) ≡ (77309411808, replicate 23 165)

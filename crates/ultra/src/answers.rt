@@ -1,8 +1,8 @@
 // Answers as one number.
 ghost use mathlib.Core.Path.{_≡_};
 ghost use Rattle.ultra.specs.Crossing.{numberAndValue, answerCrossed, stepCrossed, readingCrossed, partCrossed};
-use ultra_format::Answer;
-use ultra_format::Refusal;
+use refusals::Answer;
+use refusals::Refusal;
 use ultra_questions::Part;
 use ultra_reading::Reading;
 use ultra_reading::Step;

@@ -13,7 +13,7 @@ pub extern "C" fn ultra_read(buf: &[u8]) -> u64
     crate::answers::of_reading(ultra_reading::read(buf))
 }
 
-// The offset of the cursor behind the attribute at `index` and `offset`, or 0 at the end.
+// The offset of the cursor after the attribute at `index` and `offset`, or 0 at the end.
 #[no_mangle]
 pub extern "C" fn ultra_step(buf: &[u8], index: u32, offset: u32) -> u64
     ensures { λ r. ⌜ r ≡ stepCrossed (stepOf (now (buf .entry)) (cursorAt index offset)) ⌝ }

@@ -14,17 +14,17 @@ use Rattle.ultra_format.specs.Contexts.{Attribute, Context, count, sizeAt, body
 use Rattle.ultra_format.specs.Layouts.{layout, Opens, roomOf}
 use Rattle.ultra_format.specs.Rules.{TypeSuits, AttributeMeets, Meets}
 use Rattle.ultra_format.specs.Decoding.{decoded, start, storedType, storedSize, storedCount, storedAttribute, contextOf}
-use Rattle.ultra_format.specs.Answers.{refused, orRefused}
-use Rattle.ultra_format.specs.declared.Refusal.{Refusal}
-use Rattle.ultra_format.specs.declared.Answer.{Answer}
-use Rattle.ultra_format.specs.declared.Answer.the-variants.{Done, Refused}
+use Rattle.refusals.specs.Answers.{refused, orRefused}
+use Rattle.refusals.specs.declared.Refusal.{Refusal}
+use Rattle.refusals.specs.declared.Answer.{Answer}
+use Rattle.refusals.specs.declared.Answer.the-variants.{Done, Refused}
 use Rattle.ultra_format.proofs.Bodies.{by-type}
 use Rattle.ultra_format.proofs.Attributes.{at, Sized, sized, width-attribute, width-layout, says-fits, says-opens}
 use Rattle.ultra_format.proofs.Decoded.{count-decoded, at-decoded, type-decoded, used-decoded, says-decoded, decoded-only}
-use Rattle.ultra_reading.specs.Reading.{headFault, faultOf, attributesAnswer, usedLength, versionOf, withVersion, readingOf, readingNumber}
+use Rattle.ultra_reading.specs.Reading.{headCheck, checkOf, attributesAnswer, usedLength, versionOf, withVersion, readingOf, readingNumber}
 use Rattle.ultra_reading.specs.declared.Reading.the-variants as reading
-use Rattle.ultra_acceptance.specs.Acceptance.{HeldBy, AcceptsExactly, OneContext, SilentBytes, versionIn, ReadsExactly, ReadsHeld}
-use Rattle.ultra_acceptance.proofs.Types.{fits, Ordered, ordered, no-fault}
+use Rattle.ultra_acceptance.specs.Acceptance.{HoldsContext, AcceptsExactly, OneContext, SilentBytes, versionIn, ReadsExactly, ReadsHeld}
+use Rattle.ultra_acceptance.proofs.Types.{fits, Ordered, ordered, no-check}
 use Rattle.ultra_acceptance.proofs.Walked.{Passes, Accepted, accepted, accepting, inside, ends}
 
 -- a decoded body suits its type, where that is not 0
@@ -119,7 +119,7 @@ module _ (fewest : ℕ) (b : List ℕ) (m : Meets fewest (roomOf b) (contextOf b
       let s = d .least in
       record {
         bounds = record { header = omega arith; least = s; eights = d .eights; within = omega arith; typed = λ e. m .typed j l (type-decoded b j h ∙ e) };
-        place = no-fault b (storedCount b) in-order j h;
+        place = no-check b (storedCount b) in-order j h;
         body = record { suits = d .suits; valuesHold = d .valuesHold; textsHold = d .textsHold; rangesHold = d .rangesHold; inOrder = d .inOrder };
       }
 
@@ -192,14 +192,14 @@ refusal-number (suc n) o rest r h e z = let q : r .number ≡ suc n = number-of 
 attributes-number : (b : List ℕ) (room i n : ℕ) (r : Refusal) → attributesAnswer b room i n ≡ Refused r → r .number ≡ 0 → ⊥
 unfolding attributesAnswer
 attributes-number b room i zero r e z = let w : _≡_ {A = ℕ} 0 1 = cc in omega arith
-attributes-number b room i (suc n) r e z = refusal-number (faultOf b room i) (start b i) _ r (attributes-number b room (suc i) n r) e z
+attributes-number b room i (suc n) r e z = refusal-number (checkOf b room i) (start b i) _ r (attributes-number b room (suc i) n r) e z
 
 pub used-number : (fewest : ℕ) (b : List ℕ) (r : Refusal) → usedLength fewest b ≡ Refused r → r .number ≡ 0 → ⊥
 unfolding usedLength
-used-number fewest b r e z = refusal-number (headFault fewest b) 0 _ r (attributes-number b (roomOf b) 0 (storedCount b) r) e z
+used-number fewest b r e z = refusal-number (headCheck fewest b) 0 _ r (attributes-number b (roomOf b) 0 (storedCount b) r) e z
 
 number-held : (b : List ℕ) → Bytes b → (a : Answer) → usedLength 2 b ≡ a → readingNumber (withVersion (versionOf b) a) ≡ 0
-    → (c : Context) × HeldBy 2 b c
+    → (c : Context) × HoldsContext 2 b c
 number-held b y (Done n) e z = let s = sound 2 b n y e in (contextOf b, (s .0, s .1))
 number-held b y (Refused r) e z = absurd (used-number 2 b r e z)
 

@@ -1,5 +1,5 @@
--- The law behind the statements in specs/Unread.antt: two buffers that are equal at the bytes that are not silent, up to the first
--- attribute at fault, are read alike.
+-- The law after the statements in specs/Unread.antt: two buffers that are equal at the bytes that are not silent, up to the first
+-- refused attribute, are read alike.
 -- Assumes nothing.
 use Prim.Native.Nat.{ℕ, zero, suc, _+_, _≤_, _<_}
 use mathlib.Core.Path.{_≡_, refl, sym, ap, _∙_}
@@ -13,18 +13,18 @@ use borrow.Author.Count.{below-none, below-more}
 use borrow.Author.Tests.{leb-true, leb-false, ne-eqb}
 use Rattle.words.specs.Words.{u32At}
 use Rattle.byte_layout.specs.Fields.{cells}
-use Rattle.ultra_format.specs.Refusals.{firstOf}
-use Rattle.ultra_format.specs.Answers.{orRefused}
+use Rattle.refusals.specs.Refusals.{firstOf}
+use Rattle.refusals.specs.Answers.{orRefused}
 use Rattle.ultra_format.specs.Contexts.{Body}
 use Rattle.ultra_format.specs.Layouts.{bodyFields, roomOf}
-use Rattle.ultra_format.specs.Members.{presentIf, sizeSuits, bodyFault}
-use Rattle.ultra_format.specs.Places.{placeFault}
+use Rattle.ultra_format.specs.Members.{presentIf, sizeSuits, bodyCheck}
+use Rattle.ultra_format.specs.Places.{placeCheck}
 use Rattle.ultra_format.specs.Decoding.{memberWhen, decoded, start, storedCount, typesBefore}
-use Rattle.ultra_format.specs.declared.Answer.{Answer}
-use Rattle.ultra_format.specs.declared.Answer.the-variants.{Done, Refused}
+use Rattle.refusals.specs.declared.Answer.{Answer}
+use Rattle.refusals.specs.declared.Answer.the-variants.{Done, Refused}
 use Rattle.ultra_format.proofs.Bodies.{by-type, decoded-type, body-stored, body-only}
 use Rattle.ultra_format.proofs.Numbers.{length-entries}
-use Rattle.ultra_reading.specs.Reading.{Clear, headFault, boundsFault, attributeFault, faultOf, attributesAnswer, usedLength, versionOf, withVersion, readingOf}
+use Rattle.ultra_reading.specs.Reading.{Clear, headCheck, boundsCheck, attributeCheck, checkOf, attributesAnswer, usedLength, versionOf, withVersion, readingOf}
 use Rattle.ultra_reading.specs.Stepping.{stepRefused}
 use Rattle.ultra_reading.specs.declared.cursor.Step.{Step}
 use Rattle.ultra_reading.proofs.HeadLaws.{head-holds, stop-short, accepted-head}
@@ -63,8 +63,8 @@ module _ (b d : List ℕ) (o s t : ℕ) where
 
   -- the body's bytes matter only where the size suits
   body-alike : (t ≡ 0 → ⊥) → (sizeSuits s (decoded b o s t) ≡ true → Same b d (o + 8) (cells (bodyFields s (decoded b o s t))))
-      → bodyFault s (decoded d o s t) ≡ bodyFault s (decoded b o s t)
-  unfolding bodyFault
+      → bodyCheck s (decoded d o s t) ≡ bodyCheck s (decoded b o s t)
+  unfolding bodyCheck
   body-alike z h = go (sizeSuits s (decoded b o s t)) refl
     where
       decoded-alike : sizeSuits s (decoded b o s t) ≡ true → decoded b o s t ≡ decoded d o s t
@@ -72,8 +72,8 @@ module _ (b d : List ℕ) (o s t : ℕ) where
           let x = decoded b o s t in
           body-only d o s x (suits-type b o s t z) q (same-holds b d o 8 (o + 8) (bodyFields s x) refl (h q) (body-stored b o s t)) ∙ ap (decoded d o s) (decoded-type b o s t)
 
-      go : (c : Bool) → sizeSuits s (decoded b o s t) ≡ c → bodyFault s (decoded d o s t) ≡ bodyFault s (decoded b o s t)
-      go true q = ap (bodyFault s) (sym (decoded-alike q))
+      go : (c : Bool) → sizeSuits s (decoded b o s t) ≡ c → bodyCheck s (decoded d o s t) ≡ bodyCheck s (decoded b o s t)
+      go true q = ap (bodyCheck s) (sym (decoded-alike q))
       go false q = rw (form-alike, q)
 
 -- ---- an attribute at `o`
@@ -91,21 +91,21 @@ module _ (b d : List ℕ) (o : ℕ) (head : (k : ℕ) → k < 8 → SameByte b d
   pub size-alike : o + 8 ≤ roomOf b → u32At d (o + 4) ≡ u32At b (o + 4)
   size-alike h = number-alike b d (o + 4) 4 (λ i l. let q : o + 4 + i ≡ o + (4 + i) = omega arith in rw q (head (4 + i) (omega arith) (omega arith)))
 
-  pub bounds-alike : boundsFault d (roomOf b) o ≡ boundsFault b (roomOf b) o
-  unfolding boundsFault
+  pub bounds-alike : boundsCheck d (roomOf b) o ≡ boundsCheck b (roomOf b) o
+  unfolding boundsCheck
   bounds-alike = go (leb (o + 8) (roomOf b)) refl
     where
-      go : (c : Bool) → leb (o + 8) (roomOf b) ≡ c → boundsFault d (roomOf b) o ≡ boundsFault b (roomOf b) o
+      go : (c : Bool) → leb (o + 8) (roomOf b) ≡ c → boundsCheck d (roomOf b) o ≡ boundsCheck b (roomOf b) o
       go true q = let h = leb-true (o + 8) (roomOf b) q in rw (kind-alike h, size-alike h)
       go false q = let h = leb-false (o + 8) (roomOf b) q in sym (stop-header d (roomOf b) o h) ∙ stop-header b (roomOf b) o h
 
-  fault-alike : (before : List ℕ) → SameBody b d o → attributeFault d (roomOf b) before o ≡ attributeFault b (roomOf b) before o
-  unfolding attributeFault
-  fault-alike before body =
+  check-alike : (before : List ℕ) → SameBody b d o → attributeCheck d (roomOf b) before o ≡ attributeCheck b (roomOf b) before o
+  unfolding attributeCheck
+  check-alike before body =
       first-alike _ _ _ _ bounds-alike (λ e.
       let k = bounds-hold b (roomOf b) o e in
       rw (kind-alike (k .header), size-alike (k .header))
-      (first-alike (placeFault before (u32At b o)) _ _ _ refl (λ p. body-alike b d o (u32At b (o + 4)) (u32At b o) (k .typed) (body k))))
+      (first-alike (placeCheck before (u32At b o)) _ _ _ refl (λ p. body-alike b d o (u32At b (o + 4)) (u32At b o) (k .typed) (body k))))
 
 -- ---- all of a buffer
 -- d is as b at every byte that is read
@@ -122,8 +122,8 @@ module _ (b d : List ℕ) (s : SameRead b d) where
   walk-alike i zero e c p q = ap Done p
   walk-alike i (suc n) e c p q =
       let head = s .header i (omega arith) c in
-      let f : faultOf d (roomOf b) i ≡ faultOf b (roomOf b) i = rw (p, q) (fault-alike b d (start b i) head (typesBefore b i) (s .body i (omega arith) c)) in
-      or-alike (faultOf d (roomOf b) i) (faultOf b (roomOf b) i) (start d i) (start b i) _ _ f p (λ z.
+      let f : checkOf d (roomOf b) i ≡ checkOf b (roomOf b) i = rw (p, q) (check-alike b d (start b i) head (typesBefore b i) (s .body i (omega arith) c)) in
+      or-alike (checkOf d (roomOf b) i) (checkOf b (roomOf b) i) (start d i) (start b i) _ _ f p (λ z.
       let k = attribute-bounds b (roomOf b) (typesBefore b i) (start b i) z in
       walk-alike (suc i) n (omega arith) (λ j g. below-more _ _ c z j (omega arith))
       (rw (p, size-alike b d (start b i) head (k .header))) (rw (p, q, kind-alike b d (start b i) head (k .header))))
@@ -138,11 +138,11 @@ module _ (b d : List ℕ) (s : SameRead b d) where
     pub count-alike : storedCount d ≡ storedCount b
     count-alike = number-alike b d 4 4 (λ i l. s .head (4 + i) (omega arith) (λ e. omega arith) (λ e. omega arith) (omega arith))
 
-  pub head-alike : (fewest : ℕ) → headFault fewest d ≡ headFault fewest b
-  unfolding headFault
+  pub head-alike : (fewest : ℕ) → headCheck fewest d ≡ headCheck fewest b
+  unfolding headCheck
   head-alike fewest = go (leb 8 (roomOf b)) refl
     where
-      go : (c : Bool) → leb 8 (roomOf b) ≡ c → headFault fewest d ≡ headFault fewest b
+      go : (c : Bool) → leb 8 (roomOf b) ≡ c → headCheck fewest d ≡ headCheck fewest b
       go true q = let h = leb-true 8 (roomOf b) q in rw (s .room, major-alike h, count-alike h)
       go false q =
           let h = leb-false 8 (roomOf b) q in

@@ -8,7 +8,7 @@ use mathlib.Core.Logic.{_⊎_, _⊎_.inl, _⊎_.inr}
 use native.Mathlib.Omega.{arith}
 use lib.ListN.{length, take, set, length-set}
 use lib.Seq.{getD-set-other, take-append-seam}
-use Rattle.ultra_format.specs.Answers.{refusal}
+use Rattle.refusals.specs.Answers.{refusal}
 use Rattle.ultra_format.specs.Contexts.{Context, used}
 use Rattle.ultra_format.specs.Layouts.{Silent, roomOf}
 use Rattle.ultra_format.specs.Decoding.{start, contextOf}
@@ -22,7 +22,7 @@ use Rattle.ultra_reading.specs.declared.cursor.Header.{Header}
 use Rattle.ultra_reading.specs.declared.cursor.Cursor.{Cursor}
 use Rattle.ultra_reading.specs.declared.cursor.Step.{Step}
 use Rattle.ultra_reading.specs.declared.cursor.Step.the-variants.{Attribute, End, Refused}
-use Rattle.ultra_acceptance.specs.Acceptance.{HeldBy, versionIn, ReadsExactly, ReadsHeld}
+use Rattle.ultra_acceptance.specs.Acceptance.{HoldsContext, versionIn, ReadsExactly, ReadsHeld}
 use Rattle.ultra_acceptance.specs.Refusing.{Refuses, ReadingRefuses}
 use Rattle.ultra_acceptance.specs.Steps.{StepRefuses, StepEnds, StepGives, StepsExactly, SteppingThrough}
 use Rattle.ultra_acceptance.specs.Unread.{ReadAlike, PastRoomUnread, SameButSilent, SilentUnread, SilentInListUnread}
@@ -38,7 +38,7 @@ module _ (exactly : ReadsExactly) (held : ReadsHeld) (refuses : ReadingRefuses) 
   accepted-or-refused b y = go (readingOf b) refl
     where
       go : (a : Reading) → readingOf b ≡ a
-          → ((c : Context) × HeldBy 2 b c × (readingOf b ≡ reading.Accepted (versionIn c) (used c)))
+          → ((c : Context) × HoldsContext 2 b c × (readingOf b ≡ reading.Accepted (versionIn c) (used c)))
           ⊎ ((n : ℕ) × (o : ℕ) × Refuses 2 b n o × (readingOf b ≡ reading.Refused (refusal n o)))
       go (reading.Accepted v n) e = let s = exactly b y .0 (ap readingNumber e) in inl (s .0, s .1, held b (s .0) (s .1))
       go (reading.Refused r) e = inr (r .number, r .offset, refuses b r .0 e, e)

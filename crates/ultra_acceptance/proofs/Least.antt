@@ -6,7 +6,7 @@ use mathlib.Core.Bool.{Bool, true, false, true≢false}
 use mathlib.Core.Logic.{_⊎_, _⊎_.inl, _⊎_.inr, ⊎-elim}
 use native.Mathlib.Omega.{arith}
 use borrow.Author.Count.{below-more}
-use Rattle.ultra_format.specs.Refusals.{unless, firstOf}
+use Rattle.refusals.specs.Refusals.{unless, firstOf}
 use Rattle.ultra_acceptance.specs.Refusing.{NoneBreaks, Least}
 
 abbrev Below : (ℕ → Type 0) → ℕ → Type 0

@@ -7,12 +7,12 @@ use mathlib.Core.Logic.{_⊎_, _⊎_.inl, _⊎_.inr, ⊎-elim}
 use native.Mathlib.Omega.{arith}
 use native.Mathlib.Numerals.{add-one}
 use borrow.Author.Count.{below-none, below-more}
-use Rattle.ultra_format.specs.Answers.{refused, numberOf, valueOf}
+use Rattle.refusals.specs.Answers.{refused, numberOf, valueOf}
 use Rattle.ultra_format.specs.Layouts.{roomOf}
 use Rattle.ultra_format.specs.Decoding.{start, storedCount}
-use Rattle.ultra_format.specs.declared.Refusal.{Refusal}
-use Rattle.ultra_format.specs.declared.Answer.{Answer}
-use Rattle.ultra_format.specs.declared.Answer.the-variants.{Done, Refused}
+use Rattle.refusals.specs.declared.Refusal.{Refusal}
+use Rattle.refusals.specs.declared.Answer.{Answer}
+use Rattle.refusals.specs.declared.Answer.the-variants.{Done, Refused}
 use Rattle.ultra_reading.specs.Reading.{attributesAnswer, usedLength, versionOf, withVersion, readingOf}
 use Rattle.ultra_reading.specs.declared.Version.{Version}
 use Rattle.ultra_reading.specs.declared.Reading.the-variants as reading

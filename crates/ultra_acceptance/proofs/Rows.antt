@@ -12,13 +12,13 @@ use lib.ListN.{length, getD}
 use lib.Dec.{leb, eqb}
 use borrow.Author.Tests.{leb-true, leb-false, lt-leb, eqb-true, eqb-false, eq-eqb, ne-eqb, not-true, not-false}
 use Rattle.words.specs.Words.{u32At}
-use Rattle.ultra_format.specs.Refusals.{SHORT, VERSION, COUNT, MISSING, HEADER, SIZE, OVERRUN, TYPE, PLACE, REPEAT, SPLIT, FORM, VALUE, TEXT, RANGE, ORDER}
+use Rattle.refusals.specs.Refusals.{SHORT, VERSION, COUNT, MISSING, HEADER, SIZE, OVERRUN, TYPE, PLACE, REPEAT, SPLIT, FORM, VALUE, TEXT, RANGE, ORDER}
 use Rattle.ultra_format.specs.Layouts.{roomOf}
-use Rattle.ultra_format.specs.Members.{sizeSuits, values, texts, ranges, ordered, bodyFault}
-use Rattle.ultra_format.specs.Places.{placed, single, repeatable, occurs, nearest, placeFault}
+use Rattle.ultra_format.specs.Members.{sizeSuits, values, texts, ranges, ordered, bodyCheck}
+use Rattle.ultra_format.specs.Places.{placed, single, repeatable, occurs, nearest, placeCheck}
 use Rattle.ultra_format.specs.Decoding.{start, storedType, storedSize, storedCount, typesBefore}
-use Rattle.ultra_format.proofs.Chains.{both-hold}
-use Rattle.ultra_reading.specs.Reading.{headFault, boundsFault, attributeFault, faultOf}
+use Rattle.refusals.proofs.Chains.{both-hold}
+use Rattle.ultra_reading.specs.Reading.{headCheck, boundsCheck, attributeCheck, checkOf}
 use Rattle.ultra_reading.proofs.PlaceLaws.{placed-first, placed-second, placed-later, length-types, occurs-here}
 use Rattle.ultra_acceptance.specs.Refusing.{HeadBreaks, Breaks, storedBody}
 use Rattle.ultra_acceptance.specs.Refusing.{HeadBreaks.short, HeadBreaks.version, HeadBreaks.count, HeadBreaks.missing}
@@ -41,8 +41,8 @@ module _ (fewest : ℕ) (b : List ℕ) where
   on-missing : HeadBreaks fewest b MISSING → leb fewest (storedCount b) ≡ false
   on-missing (missing h) = lt-leb fewest (storedCount b) h
 
-  head-chain : Chain (HeadBreaks fewest b) 1 5 (headFault fewest b)
-  unfolding headFault
+  head-chain : Chain (HeadBreaks fewest b) 1 5 (headCheck fewest b)
+  unfolding headCheck
   head-chain =
       link _ (λ e. short (leb-false _ _ e)) on-short
       (link _ (λ e. version (eqb-true _ _ (not-false _ e))) on-version
@@ -56,10 +56,10 @@ module _ (fewest : ℕ) (b : List ℕ) where
   in-head m (count h) = (omega arith, omega arith)
   in-head m (missing h) = (omega arith, omega arith)
 
-  pub head-settled : Settled (HeadBreaks fewest b) (headFault fewest b)
+  pub head-settled : Settled (HeadBreaks fewest b) (headCheck fewest b)
   head-settled = settled in-head head-chain
 
--- ---- 9 to 11, of a type t behind the first i attributes
+-- ---- 9 to 11, of a type t after the first i attributes
 abbrev pub Misplaced : ℕ → ℕ → Type 0
 Misplaced i t = ((i ≡ 0) × (t ≡ 1 → ⊥)) ⊎ ((i ≡ 1) × (t ≡ 2 → ⊥)) ⊎ ((1 < i) × ((t ≡ 1) ⊎ (t ≡ 2)))
 
@@ -118,8 +118,8 @@ module _ (b : List ℕ) (i t : ℕ) where
   on-parted r =
       simp (r .0, occurs-here b t (r .1 .0) i (r .1 .1) (r .1 .2), nearest-before b i (omega (arith, r .1 .1)), ne-eqb (storedType b (i - 1)) t (r .2))
 
-  pub place-chain : {breaks : ℕ → Type 0} → (breaks PLACE ↔ Misplaced i t) → (breaks REPEAT ↔ Repeated) → (breaks SPLIT ↔ Parted) → Chain breaks 9 12 (placeFault (typesBefore b i) t)
-  unfolding placeFault
+  pub place-chain : {breaks : ℕ → Type 0} → (breaks PLACE ↔ Misplaced i t) → (breaks REPEAT ↔ Repeated) → (breaks SPLIT ↔ Parted) → Chain breaks 9 12 (placeCheck (typesBefore b i) t)
+  unfolding placeCheck
   place-chain p r s =
       link (placed (length (typesBefore b i)) t) (rw length-types (λ e. p .1 (is-misplaced i t e))) (rw length-types (λ x. on-misplaced i t (p .0 x)))
       (link _ (λ e. r .1 (is-repeated e)) (λ x. on-repeated (r .0 x))
@@ -135,8 +135,8 @@ module _ (b : List ℕ) (o : ℕ) where
   off-size e q = let l = leb-true 8 sizeThere e in ⊎-elim (λ h. omega arith) (λ n. n (eqb-true _ _ q))
 
   pub bounds-chain : {breaks : ℕ → Type 0} → (breaks HEADER ↔ (roomOf b < o + 8)) → (breaks SIZE ↔ ((sizeThere < 8) ⊎ (sizeThere % 8 ≡ 0 → ⊥))) → (breaks OVERRUN ↔ (roomOf b < o + sizeThere)) → (breaks TYPE ↔ (u32At b o ≡ 0))
-      → Chain breaks 5 9 (boundsFault b (roomOf b) o)
-  unfolding boundsFault
+      → Chain breaks 5 9 (boundsCheck b (roomOf b) o)
+  unfolding boundsCheck
   bounds-chain x y z t =
       link _ (λ e. x .1 (leb-false _ _ e)) (λ r. lt-leb (o + 8) (roomOf b) (x .0 r))
       (try (leb 8 sizeThere) (λ e. y .1 (inl (leb-false _ _ e))) (λ e.
@@ -173,7 +173,7 @@ module _ (b : List ℕ) (i : ℕ) where
   of-split : Breaks b i SPLIT → Parted b i (storedType b i)
   of-split (split s o n) = (s, o, n)
 
-  types-chain : Chain (Breaks b i) 9 12 (placeFault (typesBefore b i) (storedType b i))
+  types-chain : Chain (Breaks b i) 9 12 (placeCheck (typesBefore b i) (storedType b i))
   types-chain =
       place-chain b i (storedType b i)
       (of-place, ⊎-elim (λ x. first (x .0) (x .1)) (⊎-elim (λ x. second (x .0) (x .1)) (λ x. later (x .0) (x .1))))
@@ -196,13 +196,13 @@ module _ (b : List ℕ) (i : ℕ) where
   on-order : Breaks b i ORDER → ordered (storedBody b i) ≡ false
   on-order (order e) = e
 
-  body-chain : Chain (Breaks b i) 12 17 (bodyFault (storedSize b i) (storedBody b i))
-  unfolding bodyFault
+  body-chain : Chain (Breaks b i) 12 17 (bodyCheck (storedSize b i) (storedBody b i))
+  unfolding bodyCheck
   body-chain = link _ form on-form (link _ value on-value (link _ text on-text (link _ range on-range (link _ order on-order ends))))
 
   -- all of them
-  attribute-chain : Chain (Breaks b i) 5 17 (faultOf b (roomOf b) i)
-  unfolding attributeFault
+  attribute-chain : Chain (Breaks b i) 5 17 (checkOf b (roomOf b) i)
+  unfolding attributeCheck
   attribute-chain =
       then _ _ (bounds-chain b (start b i) (of-header, header) (of-size, size) (of-overrun, overrun) (of-untyped, untyped)) (then _ _ types-chain body-chain)
 
@@ -222,5 +222,5 @@ module _ (b : List ℕ) (i : ℕ) where
   in-attribute m (range h) = (omega arith, omega arith)
   in-attribute m (order h) = (omega arith, omega arith)
 
-  pub attribute-settled : Settled (Breaks b i) (faultOf b (roomOf b) i)
+  pub attribute-settled : Settled (Breaks b i) (checkOf b (roomOf b) i)
   attribute-settled = settled in-attribute attribute-chain

@@ -11,25 +11,25 @@ use native.Mathlib.Numerals.{add-one}
 use lib.Dec.{leb, eqb}
 use borrow.Author.Tests.{leb-true, leb-false, eqb-true, eqb-false}
 use Rattle.words.specs.Words.{u32At}
-use Rattle.ultra_format.specs.Refusals.{HEADER, SIZE, OVERRUN, TYPE}
-use Rattle.ultra_format.specs.Answers.{refusal}
+use Rattle.refusals.specs.Refusals.{HEADER, SIZE, OVERRUN, TYPE}
+use Rattle.refusals.specs.Answers.{refusal}
 use Rattle.ultra_format.specs.Contexts.{Context, count, typeAt, sizeAt, total, startIn, used}
 use Rattle.ultra_format.specs.Layouts.{roomOf}
 use Rattle.ultra_format.specs.Decoding.{start, storedCount}
-use Rattle.ultra_format.specs.declared.Refusal.{Refusal}
+use Rattle.refusals.specs.declared.Refusal.{Refusal}
 use Rattle.ultra_format.proofs.Attributes.{Says, sized, opens-says}
-use Rattle.ultra_format.proofs.Chains.{both-hold}
+use Rattle.refusals.proofs.Chains.{both-hold}
 use Rattle.ultra_format.proofs.Decoded.{starts}
-use Rattle.ultra_reading.specs.Reading.{headFault}
-use Rattle.ultra_reading.specs.Stepping.{cursorFault, cursorAt, headerAt, stepOf, stepNumber, stepValue}
+use Rattle.ultra_reading.specs.Reading.{headCheck}
+use Rattle.ultra_reading.specs.Stepping.{cursorCheck, cursorAt, headerAt, stepOf, stepNumber, stepValue}
 use Rattle.ultra_reading.specs.declared.cursor.Header.{Header}
 use Rattle.ultra_reading.specs.declared.cursor.Cursor.{Cursor}
 use Rattle.ultra_reading.specs.declared.cursor.Step.{Step}
 use Rattle.ultra_reading.specs.declared.cursor.Step.the-variants.{Attribute, End, Refused}
 use Rattle.ultra_reading.proofs.HeadLaws.{head-passes}
 use Rattle.ultra_reading.proofs.BoundsLaws.{bounds-pass}
-use Rattle.ultra_reading.proofs.StepLaws.{only-bounds, step-head, step-end, step-fault, step-next}
-use Rattle.ultra_acceptance.specs.Acceptance.{HeldBy}
+use Rattle.ultra_reading.proofs.StepLaws.{only-bounds, step-head, step-end, step-check, step-next}
+use Rattle.ultra_acceptance.specs.Acceptance.{HoldsContext}
 use Rattle.ultra_acceptance.specs.Refusing.{HeadBreaks, NoneBreaks}
 use Rattle.ultra_acceptance.specs.Steps.{CursorBreaks, StepRefuses, StepEnds, StepGives, StepsExactly, cursorOf, SteppingThrough}
 use Rattle.ultra_acceptance.specs.Steps.{CursorBreaks.low, CursorBreaks.crooked, CursorBreaks.header, CursorBreaks.size, CursorBreaks.overrun, CursorBreaks.untyped}
@@ -65,8 +65,8 @@ module _ (b : List ℕ) (o : ℕ) where
   of-untyped : CursorBreaks b o TYPE → u32At b o ≡ 0
   of-untyped (untyped e) = e
 
-  cursor-chain : Chain (CursorBreaks b o) 5 9 (cursorFault b o)
-  unfolding cursorFault
+  cursor-chain : Chain (CursorBreaks b o) 5 9 (cursorCheck b o)
+  unfolding cursorCheck
   cursor-chain = try aligned is-unaligned (λ e. bounds-chain b o (of-header e, header) (of-size, size) (of-overrun, overrun) (of-untyped, untyped))
 
   in-cursor : (m : ℕ) → CursorBreaks b o m → (5 ≤ m) × (m < 9)
@@ -77,7 +77,7 @@ module _ (b : List ℕ) (o : ℕ) where
   in-cursor m (overrun h) = (omega arith, omega arith)
   in-cursor m (untyped h) = (omega arith, omega arith)
 
-  cursor-settled : Settled (CursorBreaks b o) (cursorFault b o)
+  cursor-settled : Settled (CursorBreaks b o) (cursorCheck b o)
   cursor-settled = settled in-cursor cursor-chain
 
 -- ---- a step
@@ -92,7 +92,7 @@ ends-gives : {P : Type 0} {s : Step} {h : Header} {m : Cursor} → s ≡ End →
 ends-gives p q = absurd (let z : _≡_ {A = ℕ} 0 1 = cc in omega arith)
 
 module _ (b : List ℕ) (k : Cursor) where
-  head-clear : NoneBreaks (HeadBreaks 2 b) → headFault 2 b ≡ 0
+  head-clear : NoneBreaks (HeadBreaks 2 b) → headCheck 2 b ≡ 0
   head-clear = settled-none (head-settled 2 b)
 
   is-refused : (n o : ℕ) → StepRefuses b k n o → stepOf b k ≡ Refused (refusal n o)
@@ -101,7 +101,7 @@ module _ (b : List ℕ) (k : Cursor) where
       sym (step-head b k (s .0)) ∙ ap (λ (m : ℕ). Refused (refusal m 0)) (s .1)
   is-refused n o (cursor h l e) =
       let s = settled-least (cursor-settled b (k .offset)) e in
-      sym (step-fault b k (head-clear h) l (s .0)) ∙ ap (λ (m : ℕ). Refused (refusal m (k .offset))) (s .1)
+      sym (step-check b k (head-clear h) l (s .0)) ∙ ap (λ (m : ℕ). Refused (refusal m (k .offset))) (s .1)
 
   is-end : StepEnds b k → stepOf b k ≡ End
   is-end s = sym (step-end b k (head-clear (s .0)) (s .1))
@@ -167,14 +167,14 @@ steps-exactly =
     }
 
 -- ---- through a context that a buffer holds
-module _ (b : List ℕ) (c : Context) (held : HeldBy 2 b c) where
+module _ (b : List ℕ) (c : Context) (held : HoldsContext 2 b c) where
   accepts : Accepted 2 b (used c)
   accepts = accepted 2 b (used c) (complete 2 b c (held .0) (held .1))
 
   says : Says b c
   says = opens-says b c (held .0 .fits) (sized (held .0)) (held .1)
 
-  head-passed : headFault 2 b ≡ 0
+  head-passed : headCheck 2 b ≡ 0
   head-passed = let h = accepts .head in sym (head-passes 2 b (h .room) (h .major) (h .most) (h .enough))
 
   start-least : (i : ℕ) → 8 ≤ start b i
@@ -187,7 +187,7 @@ module _ (b : List ℕ) (c : Context) (held : HeldBy 2 b c) where
   start-eights zero l = refl
   start-eights (suc i) l = omega (arith, start-eights i (omega arith), accepts .each i l .bounds .eights)
 
-  cursor-passed : (i : ℕ) → i < storedCount b → cursorFault b (start b i) ≡ 0
+  cursor-passed : (i : ℕ) → i < storedCount b → cursorCheck b (start b i) ≡ 0
   cursor-passed i l =
       let p = accepts .each i l .bounds in
       sym (bounds-pass b (roomOf b) (start b i) (p .header) (p .least) (p .eights) (p .within) (p .typed) ∙ only-bounds b (start b i) (start-least i) (start-eights i (omega arith)))

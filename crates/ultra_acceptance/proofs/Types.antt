@@ -10,9 +10,9 @@ use native.Mathlib.Nat.{not-suc-le-zero, eq-or-lt-of-le, le-of-suc-le-suc}
 use lib.ListN.{length}
 use lib.Dec.{leb, eqb}
 use borrow.Author.Tests.{leb-true, leb-false, eqb-true, eqb-false, eq-eqb, ne-eqb, not-true, not-false}
-use Rattle.ultra_format.specs.Places.{placed, single, repeatable, occurs, nearest, placeFault}
+use Rattle.ultra_format.specs.Places.{placed, single, repeatable, occurs, nearest, placeCheck}
 use Rattle.ultra_format.specs.Decoding.{storedType, typesBefore}
-use Rattle.ultra_format.proofs.Chains.{passed}
+use Rattle.refusals.proofs.Chains.{passed}
 use Rattle.ultra_reading.proofs.PlaceLaws.{high-repeatable, pass-new, pass-neighbour, length-types, occurs-here}
 
 -- ---- one attribute
@@ -31,8 +31,8 @@ both s o e p q = differ (sym (rw (p, q) at e))
 close : (r o : Bool) (u t : ℕ) → not (r && o && not (eqb u t)) ≡ true → r ≡ true → o ≡ true → u ≡ t
 close r o u t e p q = eqb-true u t (not-false (eqb u t) (not-true _ (rw (p, q) at e)))
 
-pub fits : (before : List ℕ) (t : ℕ) → placeFault before t ≡ 0 → Fits before t
-unfolding placeFault
+pub fits : (before : List ℕ) (t : ℕ) → placeCheck before t ≡ 0 → Fits before t
+unfolding placeCheck
 fits before t e =
     let p1 = passed (placed (length before) t) _ _ e in
     let p2 = passed (not (single t && occurs t before)) _ _ (p1 .1) in
@@ -142,13 +142,13 @@ module _ (b : List ℕ) (n : ℕ) (r : Ordered b n) where
   before-it (suc k) h s =
       ⊎-elim (λ q. sym (s .2) ∙ ap (storedType b) q) (λ lt. sym (r .together (s .0) k (suc k) lt (omega arith) h (s .2))) (eq-or-lt-of-le (le-of-suc-le-suc (s .1)))
 
-  pub no-fault : (i : ℕ) → i < n → placeFault (typesBefore b i) (storedType b i) ≡ 0
-  no-fault i h = sym (go (occurs (storedType b i) (typesBefore b i)) (single (storedType b i)) refl refl)
+  pub no-check : (i : ℕ) → i < n → placeCheck (typesBefore b i) (storedType b i) ≡ 0
+  no-check i h = sym (go (occurs (storedType b i) (typesBefore b i)) (single (storedType b i)) refl refl)
     where
       p : placed (length (typesBefore b i)) (storedType b i) ≡ true
       p = rw (length-types b i) (in-place i h)
 
-      go : (o s : Bool) → occurs (storedType b i) (typesBefore b i) ≡ o → single (storedType b i) ≡ s → 0 ≡ placeFault (typesBefore b i) (storedType b i)
+      go : (o s : Bool) → occurs (storedType b i) (typesBefore b i) ≡ o → single (storedType b i) ≡ s → 0 ≡ placeCheck (typesBefore b i) (storedType b i)
       go false s q w = pass-new (typesBefore b i) (storedType b i) p q
       go true true q w = let k = found b (storedType b i) i q in absurd (r .once (k .0) i (k .1) h w (k .2))
       go true false q w = pass-neighbour (typesBefore b i) (storedType b i) p w (before-it i h (found b (storedType b i) i q))

@@ -13,9 +13,9 @@ use Rattle.byte_layout.proofs.FieldLaws.{length-cells}
 use Rattle.ultra_format.specs.Layouts.{bodyFields, attributeFields, roomOf}
 use Rattle.ultra_format.specs.Decoding.{pick, start, storedType, storedSize, storedCount, storedAttribute, contextOf}
 use Rattle.ultra_format.proofs.Attributes.{width-attribute}
-use Rattle.ultra_format.proofs.Chains.{passed}
+use Rattle.refusals.proofs.Chains.{passed}
 use Rattle.ultra_reading.specs.Reading.{Clear}
-use Rattle.ultra_reading.specs.Stepping.{cursorFault, stepOf}
+use Rattle.ultra_reading.specs.Stepping.{cursorCheck, stepOf}
 use Rattle.ultra_reading.specs.declared.cursor.Cursor.{Cursor}
 use Rattle.ultra_reading.proofs.HeadLaws.{head-holds}
 use Rattle.ultra_reading.proofs.BoundsLaws.{bounds-hold}
@@ -72,12 +72,12 @@ module _ (b d : List ℕ) (r : roomOf d ≡ roomOf b) (h : (i : ℕ) → SameByt
   all-alike : SameRead b d
   all-alike = same-read b d (record { room = r; head = λ i l m n. h i; header = λ j l c k g. h (start b j + k); body = λ j l c k g m n. h (start b j + k) })
 
-  cursor-alike : (o : ℕ) → cursorFault d o ≡ cursorFault b o
-  unfolding cursorFault
+  cursor-alike : (o : ℕ) → cursorCheck d o ≡ cursorCheck b o
+  unfolding cursorCheck
   cursor-alike o = rw (r, bounds-alike b d o (λ k l. h (o + k)))
 
   steps-alike : (k : Cursor) → stepOf d k ≡ stepOf b k
-  unfolding stepOf cursorFault
+  unfolding stepOf cursorCheck
   steps-alike k =
       let o = k .offset in
       step-alike _ _ 0 _ _ (head-alike b d all-alike 2) (λ z.

@@ -14,13 +14,13 @@ use Rattle.words.specs.Words.{numberAt}
 use Rattle.byte_layout.specs.Fields.{Cell, cells, SilentAt}
 use Rattle.byte_layout.specs.Fields.{Cell.byte, Cell.silent}
 use Rattle.byte_layout.specs.Stored.{bytesAt, textAt}
-use Rattle.ultra_format.specs.Answers.{refusal}
+use Rattle.refusals.specs.Answers.{refusal}
 use Rattle.ultra_format.specs.Layouts.{layout, attributesFields, entriesFields, roomOf}
-use Rattle.ultra_format.specs.Members.{every, sizeSuits, values, kernelValues, moduleValues, bppSuits, framebufferValues, texts, asciiText, pathText, ranges, ordered, entriesOrdered, bodyFault}
-use Rattle.ultra_format.specs.Places.{placed, occurs, placeFault}
+use Rattle.ultra_format.specs.Members.{every, sizeSuits, values, kernelValues, moduleValues, bppSuits, framebufferValues, texts, asciiText, pathText, ranges, ordered, entriesOrdered, bodyCheck}
+use Rattle.ultra_format.specs.Places.{placed, occurs, placeCheck}
 use Rattle.ultra_format.specs.Decoding.{contextOf, attributesFrom, start, storedType, storedSize, storedCount, decoded, entriesAt, typesBefore}
-use Rattle.ultra_format.proofs.Chains.{both-hold}
-use Rattle.ultra_reading.specs.Reading.{headFault, boundsFault, attributeFault, attributesAnswer, usedLength, readingOf}
+use Rattle.refusals.proofs.Chains.{both-hold}
+use Rattle.ultra_reading.specs.Reading.{headCheck, boundsCheck, attributeCheck, attributesAnswer, usedLength, readingOf}
 use Rattle.ultra_reading.specs.declared.Reading.the-variants.{Refused}
 use Rattle.ultra_acceptance.specs.Unread.{SilentByte, SameButSilent, SameButSilentInList}
 use Rattle.ultra_acceptance.specs.Unread.{SilentByte.platformReserved, SilentByte.platformTail, SilentByte.kernelTail, SilentByte.moduleReserved, SilentByte.moduleTail, SilentByte.framebufferTail}
@@ -28,7 +28,7 @@ use Rattle.ultra_acceptance.specs.Unread.{SilentByte.platformName, Silen
 use Rattle.ultra_acceptance.specs.UnreadExample.{refusedCells, filledWith, refusedBytes, RefusedExamples}
 
 is-refused : (v : ℕ) → readingOf (refusedBytes v) ≡ Refused (refusal 13 592)
-unfolding refusedBytes readingOf usedLength headFault attributesAnswer attributeFault boundsFault placeFault placed occurs bodyFault sizeSuits values kernelValues moduleValues bppSuits framebufferValues texts asciiText pathText ranges ordered entriesOrdered every decoded entriesAt start typesBefore numberAt bytesAt textAt
+unfolding refusedBytes readingOf usedLength headCheck attributesAnswer attributeCheck boundsCheck placeCheck placed occurs bodyCheck sizeSuits values kernelValues moduleValues bppSuits framebufferValues texts asciiText pathText ranges ordered entriesOrdered every decoded entriesAt start typesBefore numberAt bytesAt textAt
 is-refused v = refl
 
 is-laid : (v : ℕ) → cells (layout (contextOf (refusedBytes v))) ≡ refusedCells

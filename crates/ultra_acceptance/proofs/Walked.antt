@@ -8,13 +8,13 @@ use mathlib.Core.Logic.{⊎-elim}
 use native.Mathlib.Omega.{arith}
 use native.Mathlib.Nat.{not-suc-le-zero, eq-or-lt-of-le, le-of-suc-le-suc, add-zero, zero-add}
 use Rattle.ultra_format.specs.Layouts.{roomOf}
-use Rattle.ultra_format.specs.Members.{sizeSuits, values, texts, ranges, ordered, bodyFault}
+use Rattle.ultra_format.specs.Members.{sizeSuits, values, texts, ranges, ordered, bodyCheck}
 use Rattle.ultra_format.specs.Contexts.{Body}
-use Rattle.ultra_format.specs.Places.{placeFault}
+use Rattle.ultra_format.specs.Places.{placeCheck}
 use Rattle.ultra_format.specs.Decoding.{decoded, start, storedType, storedSize, storedCount, typesBefore}
-use Rattle.ultra_format.specs.declared.Answer.the-variants.{Done}
-use Rattle.ultra_format.proofs.Chains.{passed, none-first, not-refused}
-use Rattle.ultra_reading.specs.Reading.{headFault, boundsFault, attributeFault, faultOf, attributesAnswer, usedLength}
+use Rattle.refusals.specs.declared.Answer.the-variants.{Done}
+use Rattle.refusals.proofs.Chains.{passed, none-first, not-refused}
+use Rattle.ultra_reading.specs.Reading.{headCheck, boundsCheck, attributeCheck, checkOf, attributesAnswer, usedLength}
 use Rattle.ultra_reading.proofs.HeadLaws.{HeadHolds, head-holds, head-passes, head-goes-on}
 use Rattle.ultra_reading.proofs.BoundsLaws.{BoundsHold, bounds-hold, bounds-pass}
 use Rattle.ultra_reading.proofs.WalkLaws.{only-body}
@@ -27,8 +27,8 @@ pub record BodyHolds (s : ℕ) (x : Body) : Type 0 where
   pub rangesHold : ranges x ≡ true
   pub inOrder : ordered x ≡ true
 
-pub body-holds : (s : ℕ) (x : Body) → bodyFault s x ≡ 0 → BodyHolds s x
-unfolding bodyFault
+pub body-holds : (s : ℕ) (x : Body) → bodyCheck s x ≡ 0 → BodyHolds s x
+unfolding bodyCheck
 body-holds s x e =
     let p1 = passed (sizeSuits s x) _ _ e in
     let p2 = passed (values x) _ _ (p1 .1) in
@@ -37,44 +37,44 @@ body-holds s x e =
     let p5 = passed (ordered x) _ _ (p4 .1) in
     record { suits = p1 .0; valuesHold = p2 .0; textsHold = p3 .0; rangesHold = p4 .0; inOrder = p5 .0 }
 
-pub body-passes : (s : ℕ) (x : Body) → BodyHolds s x → bodyFault s x ≡ 0
-unfolding bodyFault
+pub body-passes : (s : ℕ) (x : Body) → BodyHolds s x → bodyCheck s x ≡ 0
+unfolding bodyCheck
 body-passes s x h = rw (h .suits, h .valuesHold, h .textsHold, h .rangesHold, h .inOrder)
 
 -- ---- attribute i
 pub record Passes (b : List ℕ) (room i : ℕ) : Type 0 where
   pub bounds : BoundsHold b room (start b i)
-  pub place : placeFault (typesBefore b i) (storedType b i) ≡ 0
+  pub place : placeCheck (typesBefore b i) (storedType b i) ≡ 0
   pub body : BodyHolds (storedSize b i) (decoded b (start b i) (storedSize b i) (storedType b i))
 
-pub passes : (b : List ℕ) (room i : ℕ) → faultOf b room i ≡ 0 → Passes b room i
-unfolding attributeFault
+pub passes : (b : List ℕ) (room i : ℕ) → checkOf b room i ≡ 0 → Passes b room i
+unfolding attributeCheck
 passes b room i e =
-    let p1 = none-first (boundsFault b room (start b i)) _ e in
-    let p2 = none-first (placeFault (typesBefore b i) (storedType b i)) _ (p1 .1) in
+    let p1 = none-first (boundsCheck b room (start b i)) _ e in
+    let p2 = none-first (placeCheck (typesBefore b i) (storedType b i)) _ (p1 .1) in
     record { bounds = bounds-hold b room (start b i) (p1 .0); place = p2 .0; body = body-holds _ _ (p2 .1) }
 
-pub passing : (b : List ℕ) (room i : ℕ) → Passes b room i → faultOf b room i ≡ 0
+pub passing : (b : List ℕ) (room i : ℕ) → Passes b room i → checkOf b room i ≡ 0
 passing b room i h =
     let k = h .bounds in
     sym (only-body b room (typesBefore b i) (start b i) (sym (bounds-pass b room (start b i) (k .header) (k .least) (k .eights) (k .within) (k .typed))) (h .place))
     ∙ body-passes _ _ (h .body)
 
 -- ---- n attributes from attribute i on
-walked : (b : List ℕ) (room i n m : ℕ) → attributesAnswer b room i n ≡ Done m → ((j : ℕ) → i ≤ j → j < i + n → faultOf b room j ≡ 0) × (m ≡ start b (i + n))
+walked : (b : List ℕ) (room i n m : ℕ) → attributesAnswer b room i n ≡ Done m → ((j : ℕ) → i ≤ j → j < i + n → checkOf b room j ≡ 0) × (m ≡ start b (i + n))
 unfolding attributesAnswer
 walked b room i zero m e = (λ j l h. absurd (omega arith), rw add-zero (cc))
 walked b room i (suc n) m e =
-    let p = not-refused (faultOf b room i) (start b i) (attributesAnswer b room (suc i) n) m e in
+    let p = not-refused (checkOf b room i) (start b i) (attributesAnswer b room (suc i) n) m e in
     let r = walked b room (suc i) n m (p .1) in
     let q : suc i + n ≡ i + suc n = omega arith in
-    (λ j l h. ⊎-elim (λ s. subst (λ (k : ℕ). faultOf b room k ≡ 0) s (p .0)) (λ lt. r .0 j lt (omega arith)) (eq-or-lt-of-le l), r .1 ∙ ap (start b) q)
+    (λ j l h. ⊎-elim (λ s. subst (λ (k : ℕ). checkOf b room k ≡ 0) s (p .0)) (λ lt. r .0 j lt (omega arith)) (eq-or-lt-of-le l), r .1 ∙ ap (start b) q)
 
-walks : (b : List ℕ) (room i n : ℕ) → ((j : ℕ) → i ≤ j → j < i + n → faultOf b room j ≡ 0) → attributesAnswer b room i n ≡ Done (start b (i + n))
+walks : (b : List ℕ) (room i n : ℕ) → ((j : ℕ) → i ≤ j → j < i + n → checkOf b room j ≡ 0) → attributesAnswer b room i n ≡ Done (start b (i + n))
 unfolding attributesAnswer
 walks b room i zero h = rw add-zero
 walks b room i (suc n) h =
-    let z : faultOf b room i ≡ 0 = h i (omega arith) (omega arith) in
+    let z : checkOf b room i ≡ 0 = h i (omega arith) (omega arith) in
     let q : suc i + n ≡ i + suc n = omega arith in
     rw z (walks b room (suc i) n (λ j l m. h j (omega arith) (omega arith)) ∙ ap (λ (k : ℕ). Done (start b k)) q)
 
@@ -87,7 +87,7 @@ pub record Accepted (fewest : ℕ) (b : List ℕ) (n : ℕ) : Type 0 where
 pub accepted : (fewest : ℕ) (b : List ℕ) (n : ℕ) → usedLength fewest b ≡ Done n → Accepted fewest b n
 unfolding usedLength
 accepted fewest b n e =
-    let p = not-refused (headFault fewest b) 0 (attributesAnswer b (roomOf b) 0 (storedCount b)) n e in
+    let p = not-refused (headCheck fewest b) 0 (attributesAnswer b (roomOf b) 0 (storedCount b)) n e in
     let w = walked b (roomOf b) 0 (storedCount b) n (p .1) in
     record {
       head = head-holds fewest b (p .0);

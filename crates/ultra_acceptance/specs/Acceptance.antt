@@ -11,22 +11,22 @@ use Rattle.byte_layout.specs.Stored.{Bytes}
 use Rattle.ultra_format.specs.Contexts.{Context, used}
 use Rattle.ultra_format.specs.Layouts.{Opens, Silent, roomOf}
 use Rattle.ultra_format.specs.Rules.{Meets}
-use Rattle.ultra_format.specs.declared.Answer.the-variants.{Done}
+use Rattle.refusals.specs.declared.Answer.the-variants.{Done}
 use Rattle.ultra_reading.specs.Reading.{usedLength, readingOf, readingNumber}
 use Rattle.ultra_reading.specs.declared.Version.{Version}
 use Rattle.ultra_reading.specs.declared.Reading.the-variants.{Accepted}
 
 -- a context that a buffer holds: it "meets the rules" with that buffer's room, "and its bytes open the buffer"
-abbrev pub HeldBy : ℕ → List ℕ → Context → Type 0
-HeldBy fewest b c = Meets fewest (roomOf b) c × Opens b c
+abbrev pub HoldsContext : ℕ → List ℕ → Context → Type 0
+HoldsContext fewest b c = Meets fewest (roomOf b) c × Opens b c
 
 -- a used length is answered exactly when "some list meets the rules and its bytes open the buffer", and it is that list's
 abbrev pub AcceptsExactly : Type 0
-AcceptsExactly = (fewest : ℕ) (b : List ℕ) (n : ℕ) → Bytes b → (usedLength fewest b ≡ Done n) ↔ ((c : Context) × HeldBy fewest b c × (n ≡ used c))
+AcceptsExactly = (fewest : ℕ) (b : List ℕ) (n : ℕ) → Bytes b → (usedLength fewest b ≡ Done n) ↔ ((c : Context) × HoldsContext fewest b c × (n ≡ used c))
 
 -- "Then there is no other such list and no other used length"
 abbrev pub OneContext : Type 0
-OneContext = (fewest : ℕ) (b : List ℕ) (c d : Context) → HeldBy fewest b c → HeldBy fewest b d → c ≡ d
+OneContext = (fewest : ℕ) (b : List ℕ) (c d : Context) → HoldsContext fewest b c → HoldsContext fewest b d → c ≡ d
 
 -- of the context c that b holds, d is "a second buffer of at least the used length, equal to the first up to there apart from bytes
 -- silent in the first"
@@ -36,7 +36,7 @@ DiffersInSilence c b d = (used c ≤ length d) × ((i : ℕ) → i < used c → 
 -- such a buffer holds the same context, and its used length is answered alike
 abbrev pub SilentBytes : Type 0
 SilentBytes =
-    (fewest : ℕ) (b d : List ℕ) (c : Context) → HeldBy fewest b c → DiffersInSilence c b d → HeldBy fewest d c × (usedLength fewest d ≡ usedLength fewest b)
+    (fewest : ℕ) (b d : List ℕ) (c : Context) → HoldsContext fewest b c → DiffersInSilence c b d → HoldsContext fewest d c × (usedLength fewest d ≡ usedLength fewest b)
 
 -- the version of a list: "The list carries the version"
 abbrev pub versionIn : Context → Version
@@ -44,8 +44,8 @@ versionIn c = record { major = c .major; minor = c .minor }
 
 -- "reading accepts exactly when some list meets the rules and its bytes open the buffer"
 abbrev pub ReadsExactly : Type 0
-ReadsExactly = (b : List ℕ) → Bytes b → (readingNumber (readingOf b) ≡ 0) ↔ ((c : Context) × HeldBy 2 b c)
+ReadsExactly = (b : List ℕ) → Bytes b → (readingNumber (readingOf b) ≡ 0) ↔ ((c : Context) × HoldsContext 2 b c)
 
 -- and answers that list's version and used length
 abbrev pub ReadsHeld : Type 0
-ReadsHeld = (b : List ℕ) (c : Context) → HeldBy 2 b c → readingOf b ≡ Accepted (versionIn c) (used c)
+ReadsHeld = (b : List ℕ) (c : Context) → HoldsContext 2 b c → readingOf b ≡ Accepted (versionIn c) (used c)

@@ -7,7 +7,7 @@ use mathlib.Core.Path.{_≡_}
 use mathlib.Core.Logic.{_⊎_}
 use mathlib.Core.List.{List, _++_}
 use lib.ListN.{length, getD, set}
-use Rattle.ultra_format.specs.Answers.{refusal}
+use Rattle.refusals.specs.Answers.{refusal}
 use Rattle.ultra_format.specs.Contexts.{Context, used}
 use Rattle.ultra_format.specs.Layouts.{Silent}
 use Rattle.ultra_format.specs.Decoding.{contextOf}
@@ -18,7 +18,7 @@ use Rattle.ultra_reading.specs.declared.Reading.the-variants as reading
 use Rattle.ultra_reading.specs.declared.cursor.Header.{Header}
 use Rattle.ultra_reading.specs.declared.cursor.Cursor.{Cursor}
 use Rattle.ultra_reading.specs.declared.cursor.Step.the-variants.{Attribute, End, Refused}
-use Rattle.ultra_acceptance.specs.Acceptance.{HeldBy, versionIn}
+use Rattle.ultra_acceptance.specs.Acceptance.{HoldsContext, versionIn}
 use Rattle.ultra_acceptance.specs.Refusing.{Refuses}
 use Rattle.ultra_acceptance.specs.Steps.{StepRefuses, StepEnds, StepGives, StepsThrough}
 use Rattle.ultra_acceptance.specs.Unread.{ReadAlike}
@@ -27,12 +27,12 @@ use Rattle.ultra_acceptance.specs.Unread.{ReadAlike}
 abbrev pub EveryReading : Type 0
 EveryReading =
     (b : List ℕ) → ((i : ℕ) → getD b i 0 < 256)
-    → ((c : Context) × HeldBy 2 b c × (readingOf b ≡ reading.Accepted (versionIn c) (used c)))
+    → ((c : Context) × HoldsContext 2 b c × (readingOf b ≡ reading.Accepted (versionIn c) (used c)))
     ⊎ ((n : ℕ) × (o : ℕ) × Refuses 2 b n o × (readingOf b ≡ reading.Refused (refusal n o)))
 
 -- and never both; the table names one refusal at most
 pub record OneReading (b : List ℕ) (n o : ℕ) : Type 0 where
-  pub notHeld : (c : Context) → HeldBy 2 b c → ⊥
+  pub notHeld : (c : Context) → HoldsContext 2 b c → ⊥
   pub only : (m p : ℕ) → Refuses 2 b m p → (m ≡ n) × (p ≡ o)
 
 abbrev pub OneReadings : Type 0
@@ -70,7 +70,7 @@ SilentOverwritten = (b : List ℕ) (i x : ℕ) → Silent (contextOf b) i → Re
 
 -- whatever bytes reading accepts, steps go through the list that the buffer holds
 abbrev pub AcceptedSteps : Type 0
-AcceptedSteps = (b : List ℕ) → ((i : ℕ) → getD b i 0 < 256) → readingNumber (readingOf b) ≡ 0 → (c : Context) × HeldBy 2 b c × StepsThrough b c
+AcceptedSteps = (b : List ℕ) → ((i : ℕ) → getD b i 0 < 256) → readingNumber (readingOf b) ≡ 0 → (c : Context) × HoldsContext 2 b c × StepsThrough b c
 
 -- so they go through the context with every type, which is not plain
 abbrev pub StepsThroughEveryType : Type 0

@@ -9,15 +9,15 @@ use mathlib.Core.Logic.{_↔_, _⊎_}
 use mathlib.Core.Bool.{true, false}
 use mathlib.Core.List.{List}
 use lib.ListN.{getD}
-use Rattle.ultra_format.specs.Refusals.{SHORT, VERSION, COUNT, MISSING, HEADER, SIZE, OVERRUN, TYPE, PLACE, REPEAT, SPLIT, FORM, VALUE, TEXT, RANGE, ORDER}
-use Rattle.ultra_format.specs.Answers.{numberOf, valueOf}
+use Rattle.refusals.specs.Refusals.{SHORT, VERSION, COUNT, MISSING, HEADER, SIZE, OVERRUN, TYPE, PLACE, REPEAT, SPLIT, FORM, VALUE, TEXT, RANGE, ORDER}
+use Rattle.refusals.specs.Answers.{numberOf, valueOf}
 use Rattle.ultra_format.specs.Contexts.{Body}
 use Rattle.ultra_format.specs.Layouts.{roomOf}
 use Rattle.ultra_format.specs.Members.{sizeSuits, values, texts, ranges, ordered}
 use Rattle.ultra_format.specs.Places.{single, repeatable}
 use Rattle.ultra_format.specs.Decoding.{start, storedType, storedSize, storedCount, storedAttribute}
-use Rattle.ultra_format.specs.declared.Refusal.{Refusal}
-use Rattle.ultra_format.specs.declared.Answer.the-variants.{Refused}
+use Rattle.refusals.specs.declared.Refusal.{Refusal}
+use Rattle.refusals.specs.declared.Answer.the-variants.{Refused}
 use Rattle.ultra_reading.specs.Reading.{usedLength, readingOf, readingNumber, readingValue}
 use Rattle.ultra_reading.specs.declared.Reading.the-variants as reading
 

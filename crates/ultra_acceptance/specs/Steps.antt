@@ -9,16 +9,16 @@ use mathlib.Core.Path.{_≡_}
 use mathlib.Core.Logic.{_↔_, _⊎_}
 use mathlib.Core.List.{List}
 use Rattle.words.specs.Words.{u32At}
-use Rattle.ultra_format.specs.Refusals.{HEADER, SIZE, OVERRUN, TYPE}
+use Rattle.refusals.specs.Refusals.{HEADER, SIZE, OVERRUN, TYPE}
 use Rattle.ultra_format.specs.Contexts.{Context, count, typeAt, sizeAt, startIn}
 use Rattle.ultra_format.specs.Layouts.{roomOf}
 use Rattle.ultra_format.specs.Decoding.{storedCount}
-use Rattle.ultra_format.specs.declared.Refusal.{Refusal}
+use Rattle.refusals.specs.declared.Refusal.{Refusal}
 use Rattle.ultra_reading.specs.Stepping.{stepOf, stepNumber, stepValue}
 use Rattle.ultra_reading.specs.declared.cursor.Header.{Header}
 use Rattle.ultra_reading.specs.declared.cursor.Cursor.{Cursor}
 use Rattle.ultra_reading.specs.declared.cursor.Step.the-variants.{Attribute, End, Refused}
-use Rattle.ultra_acceptance.specs.Acceptance.{HeldBy}
+use Rattle.ultra_acceptance.specs.Acceptance.{HoldsContext}
 use Rattle.ultra_acceptance.specs.Refusing.{HeadBreaks, NoneBreaks, Least}
 
 -- ---- the table
@@ -80,4 +80,4 @@ pub record StepsThrough (b : List ℕ) (c : Context) : Type 0 where
 
 -- whichever context a buffer holds, whoever wrote it
 abbrev pub SteppingThrough : Type 0
-SteppingThrough = (b : List ℕ) (c : Context) → HeldBy 2 b c → StepsThrough b c
+SteppingThrough = (b : List ℕ) (c : Context) → HoldsContext 2 b c → StepsThrough b c

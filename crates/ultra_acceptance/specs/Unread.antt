@@ -52,7 +52,7 @@ pub data SilentByte (b : List ℕ) (o t k : ℕ) : Type 0 where
 abbrev pub SameByte : List ℕ → List ℕ → ℕ → Type 0
 SameByte b d i = i < roomOf b → getD d i 0 ≡ getD b i 0
 
--- d is as b but for bytes that are silent in b. Nothing is asked of what follows the first attribute at fault: reading ends there.
+-- d is as b but for bytes that are silent in b. Nothing is asked of what follows the first attribute that is refused: reading ends there.
 pub record SameButSilent (b d : List ℕ) : Type 0 where
   pub room : roomOf d ≡ roomOf b
   -- "the head's reserved u16", bytes 2 and 3, is silent
@@ -62,7 +62,7 @@ pub record SameButSilent (b d : List ℕ) : Type 0 where
   pub body : (j : ℕ) → j < storedCount b → Clear b (roomOf b) j
       → (k : ℕ) → 8 ≤ k → k < storedSize b j → (SilentByte b (start b j) (storedType b j) k → ⊥) → SameByte b d (start b j + k)
 
--- B19: "No condition of [1] to [16] looks at the head's reserved u16, a reserved member, a tail behind a text's zero, a longer attribute's
+-- B19: "No condition of [1] to [16] looks at the head's reserved u16, a reserved member, a tail after a text's zero, a longer attribute's
 -- tail or the body of a type from 7 up."
 abbrev pub SilentUnread : Type 0
 SilentUnread = (b d : List ℕ) → SameButSilent b d → ReadAlike b d

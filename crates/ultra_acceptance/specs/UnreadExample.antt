@@ -6,14 +6,14 @@ use mathlib.Core.Path.{_≡_}
 use mathlib.Core.List.{List, [], _∷_, _++_}
 use Rattle.byte_layout.specs.Fields.{Cell, bytes, silence}
 use Rattle.byte_layout.specs.Fields.{Cell.byte, Cell.silent}
-use Rattle.ultra_format.specs.Refusals.{VALUE}
-use Rattle.ultra_format.specs.Answers.{refusal}
+use Rattle.refusals.specs.Refusals.{VALUE}
+use Rattle.refusals.specs.Answers.{refusal}
 use Rattle.ultra_format.specs.Examples.{zeros}
 use Rattle.ultra_reading.specs.Reading.{readingOf}
 use Rattle.ultra_reading.specs.declared.Reading.the-variants.{Refused}
 use Rattle.ultra_acceptance.specs.Unread.{SameButSilent, SameButSilentInList}
 
--- 632 bytes; the last attribute is at fault
+-- 632 bytes; the last attribute is refused
 abbrev pub refusedCells : List Cell
 refusedCells =
     -- head, with its reserved u16

@@ -10,20 +10,21 @@ use lib.Seq.{take-all, drop-drop}
 use Rattle.words.specs.Words.{littleEndian, replaced}
 use Rattle.words.proofs.Stores.{length-replaced}
 use Rattle.byte_layout.specs.Stored.{over}
-use Rattle.ultra_format.specs.Answers.{orRefused}
+use Rattle.refusals.specs.Answers.{orRefused}
 use Rattle.ultra_format.specs.Contexts.{Body, typeOf, Context, used}
 use Rattle.ultra_format.specs.Layouts.{roomOf}
 use Rattle.ultra_format.specs.Decoding.{storedCount, typesBefore}
 use Rattle.ultra_format.specs.Plain.{writtenSize}
-use Rattle.ultra_format.specs.Additions.{Addition, bodyGiven, formed, newBytes, givenFault}
-use Rattle.ultra_format.specs.declared.Refusal.{Refusal}
-use Rattle.ultra_format.specs.declared.Answer.{Answer}
-use Rattle.ultra_format.specs.declared.Answer.the-variants.{Done, Refused}
-use Rattle.ultra_format.proofs.Chains.{passed}
-use Rattle.ultra_acceptance.specs.Acceptance.{HeldBy}
+use Rattle.ultra_format.specs.Members.{bodyCheck}
+use Rattle.ultra_format.specs.Additions.{Addition, bodyGiven, formed, newBytes, givenCheck}
+use Rattle.refusals.specs.declared.Refusal.{Refusal}
+use Rattle.refusals.specs.declared.Answer.{Answer}
+use Rattle.refusals.specs.declared.Answer.the-variants.{Done, Refused}
+use Rattle.refusals.proofs.Chains.{passed}
+use Rattle.ultra_acceptance.specs.Acceptance.{HoldsContext}
 use Rattle.ultra_acceptance.proofs.Acceptance.{complete}
 use Rattle.ultra_acceptance.proofs.Walked.{BodyHolds, body-holds}
-use Rattle.ultra_building.specs.Building.{placementFault, placement, counted, admittedAt, admitted, addedAt, addedMembers, added}
+use Rattle.ultra_building.specs.Building.{appendCheck, placement, counted, admittedAt, admitted, addedAt, addedMembers, added}
 use Rattle.ultra_building.proofs.Placements.{Read, was-read, Admits, placed}
 
 -- ---- what a admitted place says
@@ -49,48 +50,48 @@ unfolding counted
 length-counted b h = length-replaced b (littleEndian 4 (storedCount b + 1)) 4 4 refl h
 
 -- ---- what is given
--- without a fault it is formed, and its members meet the rules
-pub given-holds : (f : Bool) (x : Body) → givenFault f x ≡ 0 → (f ≡ true) × BodyHolds (writtenSize x) x
-unfolding givenFault
-given-holds f x e = let p = passed f _ _ e in (p .0, body-holds _ _ (p .1))
+-- what breaks no rule is formed, and its members meet the rules
+pub given-holds : (f : Bool) (x : Body) → givenCheck f x ≡ 0 → (f ≡ true) × BodyHolds (writtenSize x) x
+unfolding givenCheck bodyCheck
+given-holds f x e = let p = passed f _ _ e in (p .0, body-holds (writtenSize x) x (p .1))
 
--- its type, its fault and its size are those that an add finds a place with
-pub record Given (f : Bool) (x : Body) (t fault size : ℕ) : Type 0 where
+-- its type, the number of what it breaks and its size are those that an add finds a place with
+pub record Given (f : Bool) (x : Body) (t number size : ℕ) : Type 0 where
   pub kind : t ≡ typeOf x
-  pub faulty : fault ≡ givenFault f x
+  pub checked : number ≡ givenCheck f x
   pub wide : size ≡ writtenSize x
 
 -- ---- an add
--- at a place in q that has been admitted: the attribute lies within the buffer and within the largest room, and has no fault
+-- at a place in q that has been admitted: the attribute lies within the buffer and within the largest room, and breaks no rule
 pub record Place (q : List ℕ) (f : Bool) (x : Body) (n size : ℕ) : Type 0 where
   pub within : n + size ≤ length q
   pub small : n + size ≤ 65536
   pub wide : size ≡ writtenSize x
-  pub sound : givenFault f x ≡ 0
+  pub sound : givenCheck f x ≡ 0
 
 -- the same of what an add is given
 abbrev pub GivenBy : Addition → ℕ → ℕ → ℕ → Type 0
-GivenBy g t fault size = Given (formed g) (bodyGiven g) t fault size
+GivenBy g t number size = Given (formed g) (bodyGiven g) t number size
 
 abbrev pub PlaceBy : List ℕ → Addition → ℕ → ℕ → Type 0
 PlaceBy q g n size = Place q (formed g) (bodyGiven g) n size
 
-module _ (b q : List ℕ) (f : Bool) (x : Body) (t fault size : ℕ) (d : Given f x t fault size) (a : Answer) (e : (a, q) ≡ admitted b t fault size) where
-  admitted-given : (a, q) ≡ admitted b (typeOf x) (givenFault f x) (writtenSize x)
-  admitted-given = e ∙ (λ i. admitted b (d .kind i) (d .faulty i) (d .wide i))
+module _ (b q : List ℕ) (f : Bool) (x : Body) (t number size : ℕ) (d : Given f x t number size) (a : Answer) (e : (a, q) ≡ admitted b t number size) where
+  admitted-given : (a, q) ≡ admitted b (typeOf x) (givenCheck f x) (writtenSize x)
+  admitted-given = e ∙ (λ i. admitted b (d .kind i) (d .checked i) (d .wide i))
 
   pub place : (n : ℕ) → a ≡ Done n → Place q f x n size
   place n i =
-      let o = done b q t fault size a e n i in
-      let p = placed b t fault size n (o .0) in
+      let o = done b q t number size a e n i in
+      let p = placed b t number size n (o .0) in
       let r = was-read b n (p .0) .room in
       let l : length q ≡ length b = rw (o .1) (length-counted b (omega arith)) in
       let s = p .1 .within in
-      record { within = omega arith; small = omega arith; wide = d .wide; sound = sym (d .faulty) ∙ p .1 .sound }
+      record { within = omega arith; small = omega arith; wide = d .wide; sound = sym (d .checked) ∙ p .1 .sound }
 
   pub add-refused : (r : Refusal) → a ≡ Refused r → (a, q) ≡ addedMembers b f x
   unfolding addedMembers
-  add-refused r i = let k = kept b q (typeOf x) (givenFault f x) (writtenSize x) a admitted-given r i in rw (i, k .0, k .1)
+  add-refused r i = let k = kept b q (typeOf x) (givenCheck f x) (writtenSize x) a admitted-given r i in rw (i, k .0, k .1)
 
   -- the part from n on was lent, and came back with the attribute over its front
   spliced : (p y : List ℕ) (n k : ℕ) → k ≡ length q - n → p ≡ over y (take k (drop n q)) → take n q ++ (p ++ drop k (drop n q)) ≡ replaced q n (length y) y
@@ -104,33 +105,33 @@ module _ (b q : List ℕ) (f : Bool) (x : Body) (t fault size : ℕ) (d : Given 
       → (Done (n + size), take n q ++ (p ++ drop k (drop n q))) ≡ addedMembers b f x
   unfolding addedMembers
   add-done p n k i h w =
-      let o = done b q (typeOf x) (givenFault f x) (writtenSize x) a admitted-given n i in
+      let o = done b q (typeOf x) (givenCheck f x) (writtenSize x) a admitted-given n i in
       rw (o .0) (λ j. (Done (n + d .wide j), (spliced p (newBytes x) n k h w ∙ (λ m. replaced (o .1 m) n (length (newBytes x)) (newBytes x))) j))
 
--- members with a fault are refused, whatever else they are: only their type, fault and size are asked
-pub add-faulty : (b : List ℕ) (f g : Bool) (x y : Body) → typeOf x ≡ typeOf y → writtenSize x ≡ writtenSize y → givenFault f x ≡ givenFault g y
-    → (givenFault f x ≡ 0 → ⊥) → addedMembers b f x ≡ addedMembers b g y
+-- members that break a rule are refused, whatever else they are: only their type, its number and their size are asked
+pub add-broken : (b : List ℕ) (f g : Bool) (x y : Body) → typeOf x ≡ typeOf y → writtenSize x ≡ writtenSize y → givenCheck f x ≡ givenCheck g y
+    → (givenCheck f x ≡ 0 → ⊥) → addedMembers b f x ≡ addedMembers b g y
 unfolding addedMembers
-add-faulty b f g x y t s e n =
-    ap (addedAt b x) (λ i. placement b (t i) (e i) (s i)) ∙ go (placement b (typeOf y) (givenFault g y) (writtenSize y)) refl
+add-broken b f g x y t s e n =
+    ap (addedAt b x) (λ i. placement b (t i) (e i) (s i)) ∙ go (placement b (typeOf y) (givenCheck g y) (writtenSize y)) refl
   where
-    go : (p : Answer) → placement b (typeOf y) (givenFault g y) (writtenSize y) ≡ p → addedAt b x p ≡ addedAt b y p
+    go : (p : Answer) → placement b (typeOf y) (givenCheck g y) (writtenSize y) ≡ p → addedAt b x p ≡ addedAt b y p
     go (Done m) q = absurd (n (e ∙ placed b _ _ _ m q .1 .sound))
     go (Refused r) q = refl
 
 -- ---- an add to a buffer that holds a context
 -- the number that it gives
-abbrev pub membersFaultOn : List ℕ → Context → Bool → Body → ℕ
-membersFaultOn b c f x = placementFault (typesBefore b (storedCount b)) (roomOf b) (used c) (typeOf x) (givenFault f x) (writtenSize x)
+abbrev pub membersCheckOn : List ℕ → Context → Bool → Body → ℕ
+membersCheckOn b c f x = appendCheck (typesBefore b (storedCount b)) (roomOf b) (used c) (typeOf x) (givenCheck f x) (writtenSize x)
 
-pub members-held : (b : List ℕ) (c : Context) (f : Bool) (x : Body) → HeldBy 0 b c
-    → addedMembers b f x ≡ addedAt b x (orRefused (membersFaultOn b c f x) (used c) (Done (used c)))
+pub members-held : (b : List ℕ) (c : Context) (f : Bool) (x : Body) → HoldsContext 0 b c
+    → addedMembers b f x ≡ addedAt b x (orRefused (membersCheckOn b c f x) (used c) (Done (used c)))
 unfolding addedMembers placement
 members-held b c f x h = rw (complete 0 b c (h .0) (h .1))
 
 -- the same of what an add is given
-abbrev pub faultOn : List ℕ → Context → Addition → ℕ
-faultOn b c g = membersFaultOn b c (formed g) (bodyGiven g)
+abbrev pub checkOn : List ℕ → Context → Addition → ℕ
+checkOn b c g = membersCheckOn b c (formed g) (bodyGiven g)
 
-pub added-held : (b : List ℕ) (c : Context) (g : Addition) → HeldBy 0 b c → added b g ≡ addedAt b (bodyGiven g) (orRefused (faultOn b c g) (used c) (Done (used c)))
+pub added-held : (b : List ℕ) (c : Context) (g : Addition) → HoldsContext 0 b c → added b g ≡ addedAt b (bodyGiven g) (orRefused (checkOn b c g) (used c) (Done (used c)))
 added-held b c g h = members-held b c (formed g) (bodyGiven g) h

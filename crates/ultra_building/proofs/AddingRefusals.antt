@@ -12,35 +12,35 @@ use lib.Dec.{leb, ltb, eqb}
 use borrow.Fn.Enter.{pair≡}
 use borrow.Author.Tests.{lt-leb, leb-false, ltb-true, ltb-false, eqb-true, eqb-false, eq-eqb, ne-eqb}
 use Rattle.byte_layout.specs.Stored.{Bytes}
-use Rattle.ultra_format.specs.Refusals.{unless, firstOf, PLACE, REPEAT, SPLIT, FORM, VALUE, TEXT, RANGE, ORDER, FULL, ROOM}
-use Rattle.ultra_format.specs.Answers.{refusal, refused, numberOf, valueOf}
+use Rattle.refusals.specs.Refusals.{unless, firstOf, PLACE, REPEAT, SPLIT, FORM, VALUE, TEXT, RANGE, ORDER, FULL, ROOM}
+use Rattle.refusals.specs.Answers.{refusal, refused, numberOf, valueOf}
 use Rattle.ultra_format.specs.Contexts.{Member, Platform, Body, typeOf, Context, count, typeAt, used}
 use Rattle.ultra_format.specs.Contexts.{Member.present, Member.absent, Body.platform, Body.kernel, Body.memoryMap, Body.moduleInfo, Body.commandLine, Body.framebuffer, Body.other}
 use Rattle.ultra_format.specs.Layouts.{roomOf}
-use Rattle.ultra_format.specs.Members.{presentIf, sizeSuits, values, texts, ranges, ordered, bodyFault}
+use Rattle.ultra_format.specs.Members.{presentIf, sizeSuits, values, texts, ranges, ordered, bodyCheck}
 use Rattle.ultra_format.specs.Plain.{writtenSize}
-use Rattle.ultra_format.specs.Places.{placed, occurs, placeFault}
+use Rattle.ultra_format.specs.Places.{placed, occurs, placeCheck}
 use Rattle.ultra_format.specs.Decoding.{storedType, storedCount, contextOf, typesBefore}
-use Rattle.ultra_format.specs.Additions.{givenFault}
-use Rattle.ultra_format.specs.declared.Refusal.{Refusal}
-use Rattle.ultra_format.specs.declared.Answer.{Answer}
-use Rattle.ultra_format.specs.declared.Answer.the-variants.{Done, Refused}
-use Rattle.ultra_format.proofs.Chains.{refuses}
+use Rattle.ultra_format.specs.Additions.{givenCheck}
+use Rattle.refusals.specs.declared.Refusal.{Refusal}
+use Rattle.refusals.specs.declared.Answer.{Answer}
+use Rattle.refusals.specs.declared.Answer.the-variants.{Done, Refused}
+use Rattle.refusals.proofs.Chains.{refuses}
 use Rattle.ultra_format.proofs.Decoded.{count-decoded, type-decoded, decoded-only}
 use Rattle.ultra_reading.specs.Reading.{usedLength}
 use Rattle.ultra_reading.proofs.PlaceLaws.{length-types}
-use Rattle.ultra_acceptance.specs.Acceptance.{HeldBy}
+use Rattle.ultra_acceptance.specs.Acceptance.{HoldsContext}
 use Rattle.ultra_acceptance.specs.Refusing.{NoneBreaks, Least}
 use Rattle.ultra_acceptance.proofs.Acceptance.{accepts-exactly, used-number}
 use Rattle.ultra_acceptance.proofs.Least.{Chain, ends, try, past as beyond, link, then, settled}
 use Rattle.ultra_acceptance.proofs.Refusing.{refuses-exactly}
 use Rattle.ultra_acceptance.proofs.Rows.{Misplaced, Earlier, Repeated, Parted, place-chain}
-use Rattle.ultra_building.specs.Building.{placementFault, placement, addedAt, addedMembers}
+use Rattle.ultra_building.specs.Building.{appendCheck, placement, addedAt, addedMembers}
 use Rattle.ultra_building.specs.AddingRefusals.{Occurs, Incomplete, AdditionBreaks, rank, FirstBroken, AddRefused, AddingRefuses, RefusedAddKeeps, AddingSucceeds, EveryAdd, OneAnswer, AddingInDigits}
 use Rattle.ultra_building.specs.AddingRefusals.{AdditionBreaks.full, AdditionBreaks.first, AdditionBreaks.second, AdditionBreaks.later, AdditionBreaks.repeat, AdditionBreaks.split}
 use Rattle.ultra_building.specs.AddingRefusals.{AdditionBreaks.unformed, AdditionBreaks.incomplete, AdditionBreaks.value, AdditionBreaks.text, AdditionBreaks.range, AdditionBreaks.order, AdditionBreaks.past}
 use Rattle.ultra_building.specs.AddingRefusals.{AddRefused.reading, AddRefused.adding}
-use Rattle.ultra_building.proofs.Adding.{membersFaultOn, members-held}
+use Rattle.ultra_building.proofs.Adding.{membersCheckOn, members-held}
 
 -- ---- 12, a platform
 there : {n : ℕ} → present n ≡ absent → ⊥
@@ -172,7 +172,7 @@ module _ (b : List ℕ) (ok : Bool) (given : Body) where
   of-split : Row SPLIT → Parted b (storedCount b) t
   of-split (split s o n) = let p = to-earlier o in (s, p, λ e. n (nearest p ∙ e))
 
-  types-chain : Chain Row 9 12 (placeFault (typesBefore b (storedCount b)) t)
+  types-chain : Chain Row 9 12 (placeCheck (typesBefore b (storedCount b)) t)
   types-chain =
       place-chain b (storedCount b) t (rw count-decoded at place-row)
       (of-repeat, λ x. repeat (x .0) (of-earlier (x .1)))
@@ -191,8 +191,8 @@ module _ (b : List ℕ) (ok : Bool) (given : Body) where
   on-order : Row ORDER → ordered given ≡ false
   on-order (order e) = e
 
-  given-chain : Chain Row 12 17 (givenFault ok given)
-  unfolding givenFault bodyFault
+  given-chain : Chain Row 12 17 (givenCheck ok given)
+  unfolding givenCheck bodyCheck
   given-chain =
       try ok unformed (λ e.
       try (sizeSuits (writtenSize given) given) (is-unsuited (roomOf b) now ok given) (λ q.
@@ -207,12 +207,12 @@ module _ (b : List ℕ) (ok : Bool) (given : Body) where
   on-past (past h) = lt-leb _ _ h
 
   -- all of them
-  decided : Decided Row (membersFaultOn b now ok given)
-  unfolding placementFault
+  decided : Decided Row (membersCheckOn b now ok given)
+  unfolding appendCheck
   decided = rw length-types (go (ltb (storedCount b) 1024) refl)
     where
       go : (x : Bool) → ltb (storedCount b) 1024 ≡ x
-          → Decided Row (unless x FULL (firstOf (placeFault (typesBefore b (storedCount b)) t) (firstOf (givenFault ok given) (unless (leb (used now + writtenSize given) (roomOf b)) ROOM 0))))
+          → Decided Row (unless x FULL (firstOf (placeCheck (typesBefore b (storedCount b)) t) (firstOf (givenCheck ok given) (unless (leb (used now + writtenSize given) (roomOf b)) ROOM 0))))
       go false e = inr (λ z. omega arith, (full (rw count-decoded (ltb-false _ _ e)), λ m h. absurd (omega (arith, rank-full FULL refl))))
       go true e =
           let few : Row FULL → ⊥ = λ x. omega (arith, on-full x, ltb-true (storedCount b) 1024 e) in
@@ -228,29 +228,29 @@ module _ (b : List ℕ) (ok : Bool) (given : Body) where
   unfolding addedMembers placement
   unread r e = rw e
 
-  read-or : Bytes b → ((r : Refusal) × (usedLength 0 b ≡ Refused r)) ⊎ ((c : Context) × HeldBy 0 b c)
+  read-or : Bytes b → ((r : Refusal) × (usedLength 0 b ≡ Refused r)) ⊎ ((c : Context) × HoldsContext 0 b c)
   read-or y = go (usedLength 0 b) refl
     where
-      go : (a : Answer) → usedLength 0 b ≡ a → ((r : Refusal) × (usedLength 0 b ≡ Refused r)) ⊎ ((c : Context) × HeldBy 0 b c)
+      go : (a : Answer) → usedLength 0 b ≡ a → ((r : Refusal) × (usedLength 0 b ≡ Refused r)) ⊎ ((c : Context) × HoldsContext 0 b c)
       go (Refused r) e = inl (r, e)
       go (Done n) e = let h = accepts-exactly 0 b n y .0 e in inr (h .0, h .1)
 
   abbrev Broken : Context → ℕ → Type 0
   Broken c = AdditionBreaks (roomOf b) c ok given
 
-  outcome : (c : Context) → HeldBy 0 b c → ((addedMembers b ok given .0 ≡ Done (used c + writtenSize given)) × NoneBreaks (Broken c)) ⊎ ((n : ℕ) × (addedMembers b ok given .0 ≡ refused n (used c)) × FirstBroken (Broken c) n)
+  outcome : (c : Context) → HoldsContext 0 b c → ((addedMembers b ok given .0 ≡ Done (used c + writtenSize given)) × NoneBreaks (Broken c)) ⊎ ((n : ℕ) × (addedMembers b ok given .0 ≡ refused n (used c)) × FirstBroken (Broken c) n)
   outcome c h =
       let q = decoded-only 0 (roomOf b) b c (h .0) (h .1) in
       rw (members-held b c ok given h)
-      (⊎-elim (λ r. inl (rw (r .0), r .1)) (λ r. inr (membersFaultOn b c ok given, rw (refuses _ _ _ (r .0)), r .1))
-      (subst (λ (d : Context). Decided (Broken d) (membersFaultOn b d ok given)) (sym q) (decided b ok given)))
+      (⊎-elim (λ r. inl (rw (r .0), r .1)) (λ r. inr (membersCheckOn b c ok given, rw (refuses _ _ _ (r .0)), r .1))
+      (subst (λ (d : Context). Decided (Broken d) (membersCheckOn b d ok given)) (sym q) (decided b ok given)))
 
   to-refuse : (n o : ℕ) → Bytes b → addedMembers b ok given .0 ≡ refused n o → AddRefused b ok given n o
   to-refuse n o y e =
       ⊎-elim (λ u. reading o (refuses-exactly 0 b (refusal n o) .0 (u .1 ∙ sym (unread (u .0) (u .1)) ∙ e)))
       (λ h. ⊎-elim (λ d. clash (d .0) e) (λ r. same (h .0) (h .1) (r .0) (r .2) (sym (r .1) ∙ e)) (outcome (h .0) (h .1))) (read-or y)
     where
-      same : (c : Context) → HeldBy 0 b c → (k : ℕ) → FirstBroken (Broken c) k → refused k (used c) ≡ refused n o → AddRefused b ok given n o
+      same : (c : Context) → HoldsContext 0 b c → (k : ℕ) → FirstBroken (Broken c) k → refused k (used c) ≡ refused n o → AddRefused b ok given n o
       same c h k f q =
           let x : k ≡ n = ap numberOf q in
           let z : used c ≡ o = ap valueOf q in
@@ -263,7 +263,7 @@ module _ (b : List ℕ) (ok : Bool) (given : Body) where
       (λ r. r .1 ∙ ap (λ (k : ℕ). refused k (used c)) (first-only (λ m x. omega (arith, in-adding (roomOf b) c ok given m x .0)) (r .2) f)) (outcome c h)
 
   abbrev Succeeds : ℕ → Type 0
-  Succeeds m = (c : Context) × HeldBy 0 b c × NoneBreaks (Broken c) × (m ≡ used c + writtenSize given)
+  Succeeds m = (c : Context) × HoldsContext 0 b c × NoneBreaks (Broken c) × (m ≡ used c + writtenSize given)
 
   to-succeed : (m : ℕ) → Bytes b → numberOf (addedMembers b ok given .0) ≡ 0 → valueOf (addedMembers b ok given .0) ≡ m → Succeeds m
   to-succeed m y z v =
@@ -281,7 +281,7 @@ adding-refuses b ok given r y = (to-refuse b ok given (r .number) (r .offset) y,
 -- a refusal leaves the buffer as it was
 pub refused-add-keeps : RefusedAddKeeps
 unfolding addedMembers
-refused-add-keeps b ok given r e = go (placement b (typeOf given) (givenFault ok given) (writtenSize given)) e
+refused-add-keeps b ok given r e = go (placement b (typeOf given) (givenCheck ok given) (writtenSize given)) e
   where
     go : (p : Answer) → addedAt b given p .0 ≡ Refused r → addedAt b given p .1 ≡ b
     go (Done m) w = absurd (let z : _≡_ {A = ℕ} 0 1 = cc in omega arith)
@@ -297,7 +297,7 @@ every refuse keep succeed b ok given y = go (addedMembers b ok given .0) refl
   where
     go : (a : Answer) → addedMembers b ok given .0 ≡ a
         → ((r : Refusal) × AddRefused b ok given (numberOf (Refused r)) (valueOf (Refused r)) × (addedMembers b ok given ≡ (Refused r, b)))
-        ⊎ ((c : Context) × HeldBy 0 b c × NoneBreaks (AdditionBreaks (roomOf b) c ok given) × (addedMembers b ok given .0 ≡ Done (used c + writtenSize given)))
+        ⊎ ((c : Context) × HoldsContext 0 b c × NoneBreaks (AdditionBreaks (roomOf b) c ok given) × (addedMembers b ok given .0 ≡ Done (used c + writtenSize given)))
     go (Refused r) e = inl (r, refuse b ok given r y .0 e, pair≡ e (keep b ok given r e))
     go (Done n) e =
         let s = succeed b ok given n y .0 (ap numberOf e, ap valueOf e) in
@@ -322,5 +322,5 @@ pub one-answer : OneAnswer
 one-answer = one adding-refuses adding-succeeds
 
 pub adding-in-digits : AddingInDigits
-unfolding placementFault placeFault placed occurs
+unfolding appendCheck placeCheck placed occurs
 adding-in-digits = record { seventeen = refl; oneFewer = refl; nine = refl; ten = refl; eleven = refl; thirteen = refl; eighteen = refl; fits = refl }

@@ -7,10 +7,10 @@ use native.Mathlib.Omega.{arith}
 use lib.ListN.{length}
 use borrow.Author.Tests.{le-leb, lt-leb}
 use Rattle.words.specs.Words.{littleEndian, replaced}
-use Rattle.ultra_format.specs.Answers.{refusal}
+use Rattle.refusals.specs.Answers.{refusal}
 use Rattle.ultra_format.specs.Layouts.{roomOf}
-use Rattle.ultra_format.specs.declared.Refusal.{Refusal}
-use Rattle.ultra_format.specs.declared.Answer.the-variants.{Done, Refused}
+use Rattle.refusals.specs.declared.Refusal.{Refusal}
+use Rattle.refusals.specs.declared.Answer.the-variants.{Done, Refused}
 use Rattle.ultra_building.specs.Building.{begun}
 
 pub begun-short : (b : List ℕ) (r : Refusal) → r ≡ refusal 1 0 → length b < 8 → (Refused r, b) ≡ begun b

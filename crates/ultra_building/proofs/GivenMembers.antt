@@ -1,4 +1,4 @@
--- What it says that members given have no fault: how long their texts and GUIDs are, and that a map is of whole entries.
+-- What it says that members given break no rule: how long their texts and GUIDs are, and that a map is of whole entries.
 -- Assumes nothing.
 use Prim.Native.Nat.{ℕ, _%_, _<_}
 use mathlib.Core.Path.{_≡_}
@@ -9,7 +9,7 @@ use lib.Dec.{ltb, eqb}
 use borrow.Author.Tests.{ltb-true, eqb-true}
 use Rattle.ultra_format.specs.Members.{every, nonzero, ascii, asciiText, pathText}
 use Rattle.ultra_format.specs.Additions.{guidsFormed}
-use Rattle.ultra_format.proofs.Chains.{both-hold}
+use Rattle.refusals.proofs.Chains.{both-hold}
 
 pub name-short : (k : ℕ) (t : List ℕ) → asciiText k t ≡ true → length t < k
 unfolding asciiText

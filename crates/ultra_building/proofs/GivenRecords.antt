@@ -8,15 +8,15 @@ use native.Mathlib.Omega.{arith}
 use lib.ListN.{take, drop}
 use Rattle.ultra_format.specs.Contexts.{Member, Platform, Body}
 use Rattle.ultra_format.specs.Contexts.{Member.present, Member.absent, Body.platform}
-use Rattle.ultra_format.specs.Members.{presentIf, sizeSuits, bodyFault}
+use Rattle.ultra_format.specs.Members.{presentIf, sizeSuits, bodyCheck}
 use Rattle.ultra_format.specs.Plain.{writtenSize}
 use Rattle.ultra_format.specs.Records.{trimmed, platformGiven}
-use Rattle.ultra_format.specs.Additions.{platformOf, givenFault}
+use Rattle.ultra_format.specs.Additions.{platformOf, givenCheck}
 use Rattle.ultra_format.specs.declared.records.PlatformRecord.{PlatformRecord}
-use Rattle.ultra_format.proofs.Chains.{both-hold}
+use Rattle.refusals.proofs.Chains.{both-hold}
 use Rattle.ultra_building.specs.Building.{addedMembers}
 use Rattle.ultra_building.specs.LateMembers.{numberOrZero}
-use Rattle.ultra_building.proofs.Adding.{add-faulty}
+use Rattle.ultra_building.proofs.Adding.{add-broken}
 
 -- the part of an array that its text is
 pub text-part : (l : List ℕ) (n : ℕ) → take n l ≡ trimmed l → take (n - 0) (drop 0 l) ≡ trimmed l
@@ -62,15 +62,15 @@ module _ (b : List ℕ) (r : PlatformRecord) where
         smbios = sym t i;
       })
 
-  incomplete : sizeSuits 88 (platform given) ≡ false → givenFault false oneByOne ≡ givenFault true (platform given)
-  unfolding givenFault bodyFault writtenSize
+  incomplete : sizeSuits 88 (platform given) ≡ false → givenCheck false oneByOne ≡ givenCheck true (platform given)
+  unfolding givenCheck bodyCheck writtenSize
   incomplete e = rw e
 
-  faulty : givenFault false oneByOne ≡ 0 → ⊥
-  unfolding givenFault
-  faulty e = omega (arith, e)
+  checked : givenCheck false oneByOne ≡ 0 → ⊥
+  unfolding givenCheck
+  checked e = omega (arith, e)
 
   pub record-added : (f : Bool) → f ≡ sizeSuits 88 (platform given) → addedMembers b f oneByOne ≡ addedMembers b true (platform given)
   unfolding writtenSize
   record-added true e = ap (addedMembers b true) (complete-record (sym e))
-  record-added false e = add-faulty b false true oneByOne (platform given) refl refl (incomplete (sym e)) faulty
+  record-added false e = add-broken b false true oneByOne (platform given) refl refl (incomplete (sym e)) checked

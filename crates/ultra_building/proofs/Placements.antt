@@ -9,17 +9,17 @@ use lib.ListN.{length}
 use lib.Dec.{leb, ltb}
 use borrow.Author.Tests.{le-leb, lt-leb, leb-true, lt-ltb, le-ltb, ltb-true}
 use Rattle.words.specs.Words.{littleEndian, replaced}
-use Rattle.ultra_format.specs.Answers.{refusal}
+use Rattle.refusals.specs.Answers.{refusal}
 use Rattle.ultra_format.specs.Layouts.{roomOf}
-use Rattle.ultra_format.specs.Places.{placeFault}
+use Rattle.ultra_format.specs.Places.{placeCheck}
 use Rattle.ultra_format.specs.Decoding.{storedCount, typesBefore}
-use Rattle.ultra_format.specs.declared.Refusal.{Refusal}
-use Rattle.ultra_format.specs.declared.Answer.{Answer}
-use Rattle.ultra_format.specs.declared.Answer.the-variants.{Done, Refused}
-use Rattle.ultra_format.proofs.Chains.{passed, none-first, first-stays, refuses, not-refused}
+use Rattle.refusals.specs.declared.Refusal.{Refusal}
+use Rattle.refusals.specs.declared.Answer.{Answer}
+use Rattle.refusals.specs.declared.Answer.the-variants.{Done, Refused}
+use Rattle.refusals.proofs.Chains.{passed, none-first, first-stays, refuses, not-refused}
 use Rattle.ultra_reading.specs.Reading.{Clear, usedLength}
 use Rattle.ultra_acceptance.proofs.Walked.{accepted, passing, inside}
-use Rattle.ultra_building.specs.Building.{placementFault, placementIn, placement, counted, admitted}
+use Rattle.ultra_building.specs.Building.{appendCheck, placementIn, placement, counted, admitted}
 
 -- ---- a buffer that was read
 pub record Read (b : List ℕ) (n : ℕ) : Type 0 where
@@ -40,48 +40,48 @@ was-read b n e =
 
 -- ---- the chain
 module _ (before : List ℕ) (room used t given size : ℕ) where
-  pub stop-full : 1024 ≤ length before → 17 ≡ placementFault before room used t given size
-  unfolding placementFault
+  pub stop-full : 1024 ≤ length before → 17 ≡ appendCheck before room used t given size
+  unfolding appendCheck
   stop-full h = simp (le-ltb (length before) 1024 h)
 
   module _ (few : length before < 1024) where
-    pub stop-place : (placeFault before t ≡ 0 → ⊥) → placeFault before t ≡ placementFault before room used t given size
-    unfolding placementFault
-    stop-place h = rw (lt-ltb (length before) 1024 few) (first-stays (placeFault before t) _ h)
+    pub stop-place : (placeCheck before t ≡ 0 → ⊥) → placeCheck before t ≡ appendCheck before room used t given size
+    unfolding appendCheck
+    stop-place h = rw (lt-ltb (length before) 1024 few) (first-stays (placeCheck before t) _ h)
 
-    module _ (place : placeFault before t ≡ 0) where
-      pub stop-given : (given ≡ 0 → ⊥) → given ≡ placementFault before room used t given size
-      unfolding placementFault
+    module _ (place : placeCheck before t ≡ 0) where
+      pub stop-given : (given ≡ 0 → ⊥) → given ≡ appendCheck before room used t given size
+      unfolding appendCheck
       stop-given h = rw (lt-ltb (length before) 1024 few, place) (first-stays given _ h)
 
       module _ (sound : given ≡ 0) where
-        pub stop-room : room < used + size → 18 ≡ placementFault before room used t given size
-        unfolding placementFault
+        pub stop-room : room < used + size → 18 ≡ appendCheck before room used t given size
+        unfolding appendCheck
         stop-room h = rw (lt-ltb (length before) 1024 few, place, sound, lt-leb (used + size) room h)
 
-        pub pass : used + size ≤ room → 0 ≡ placementFault before room used t given size
-        unfolding placementFault
+        pub pass : used + size ≤ room → 0 ≡ appendCheck before room used t given size
+        unfolding appendCheck
         pass h = rw (lt-ltb (length before) 1024 few, place, sound, le-leb (used + size) room h)
 
 -- what 0 says
 pub record Admits (before : List ℕ) (room used t given size : ℕ) : Type 0 where
   pub few : length before < 1024
-  pub place : placeFault before t ≡ 0
+  pub place : placeCheck before t ≡ 0
   pub sound : given ≡ 0
   pub within : used + size ≤ room
 
-pub admits : (before : List ℕ) (room used t given size : ℕ) → placementFault before room used t given size ≡ 0 → Admits before room used t given size
-unfolding placementFault
+pub admits : (before : List ℕ) (room used t given size : ℕ) → appendCheck before room used t given size ≡ 0 → Admits before room used t given size
+unfolding appendCheck
 admits before room used t given size e =
     let p1 = passed (ltb (length before) 1024) _ _ e in
-    let p2 = none-first (placeFault before t) _ (p1 .1) in
+    let p2 = none-first (placeCheck before t) _ (p1 .1) in
     let p3 = none-first given _ (p2 .1) in
     let p4 = passed (leb (used + size) room) _ _ (p3 .1) in
     record { few = ltb-true _ _ (p1 .0); place = p2 .0; sound = p3 .0; within = leb-true _ _ (p4 .0) }
 
 -- ---- the place
 abbrev number : List ℕ → ℕ → ℕ → ℕ → ℕ → ℕ
-number b n t given size = placementFault (typesBefore b (storedCount b)) (roomOf b) n t given size
+number b n t given size = appendCheck (typesBefore b (storedCount b)) (roomOf b) n t given size
 
 module _ (b : List ℕ) (t given size : ℕ) where
   -- "gives that refusal"

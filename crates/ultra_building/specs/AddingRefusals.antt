@@ -13,8 +13,8 @@ use mathlib.Core.List.{List, [], _∷_}
 use lib.ListN.{getD, replicate}
 use lib.Dec.{eqb}
 use Rattle.byte_layout.specs.Stored.{Bytes}
-use Rattle.ultra_format.specs.Refusals.{PLACE, REPEAT, SPLIT, FORM, VALUE, TEXT, RANGE, ORDER, FULL, ROOM}
-use Rattle.ultra_format.specs.Answers.{numberOf, valueOf}
+use Rattle.refusals.specs.Refusals.{PLACE, REPEAT, SPLIT, FORM, VALUE, TEXT, RANGE, ORDER, FULL, ROOM}
+use Rattle.refusals.specs.Answers.{numberOf, valueOf}
 use Rattle.ultra_format.specs.Contexts.{Platform, Body, typeOf, Context, count, typeAt, used}
 use Rattle.ultra_format.specs.Contexts.{Member.absent, Body.platform}
 use Rattle.ultra_format.specs.Layouts.{roomOf}
@@ -22,11 +22,11 @@ use Rattle.ultra_format.specs.Members.{values, texts, ranges, ordered}
 use Rattle.ultra_format.specs.Places.{single, repeatable}
 use Rattle.ultra_format.specs.Decoding.{pick}
 use Rattle.ultra_format.specs.Plain.{writtenSize}
-use Rattle.ultra_format.specs.declared.Refusal.{Refusal}
-use Rattle.ultra_format.specs.declared.Answer.the-variants.{Done, Refused}
-use Rattle.ultra_acceptance.specs.Acceptance.{HeldBy}
+use Rattle.refusals.specs.declared.Refusal.{Refusal}
+use Rattle.refusals.specs.declared.Answer.the-variants.{Done, Refused}
+use Rattle.ultra_acceptance.specs.Acceptance.{HoldsContext}
 use Rattle.ultra_acceptance.specs.Refusing.{NoneBreaks, Refuses}
-use Rattle.ultra_building.specs.Building.{placementFault, addedMembers}
+use Rattle.ultra_building.specs.Building.{appendCheck, addedMembers}
 
 -- ---- the table
 -- "occurred earlier": a type, among the attributes of a context
@@ -76,7 +76,7 @@ pub data AddRefused (b : List ℕ) (formed : Bool) (given : Body) (n : ℕ) : �
   -- "first reads the buffer by all rules but the lower limit of the count, and gives that refusal"
   reading : (o : ℕ) → Refuses 0 b n o → AddRefused b formed given n o
   -- "Then, with the used length as offset"
-  adding : (c : Context) → HeldBy 0 b c → FirstBroken (AdditionBreaks (roomOf b) c formed given) n → AddRefused b formed given n (used c)
+  adding : (c : Context) → HoldsContext 0 b c → FirstBroken (AdditionBreaks (roomOf b) c formed given) n → AddRefused b formed given n (used c)
 
 -- ---- the statements
 -- over whole refusals, as RefusesExactly is (crate ultra_acceptance)
@@ -94,7 +94,7 @@ abbrev pub AddingSucceeds : Type 0
 AddingSucceeds =
     (b : List ℕ) (formed : Bool) (given : Body) (m : ℕ) → Bytes b
     → ((numberOf (addedMembers b formed given .0) ≡ 0) × (valueOf (addedMembers b formed given .0) ≡ m))
-    ↔ ((c : Context) × HeldBy 0 b c × NoneBreaks (AdditionBreaks (roomOf b) c formed given) × (m ≡ used c + writtenSize given))
+    ↔ ((c : Context) × HoldsContext 0 b c × NoneBreaks (AdditionBreaks (roomOf b) c formed given) × (m ≡ used c + writtenSize given))
 
 -- from the three: every add to a buffer of bytes is refused by the table and changes nothing, or breaks no row and answers the new used
 -- length. One of them that asked for more would not give it.
@@ -102,26 +102,26 @@ abbrev pub EveryAdd : Type 0
 EveryAdd =
     (b : List ℕ) (formed : Bool) (given : Body) → ((i : ℕ) → getD b i 0 < 256)
     → ((r : Refusal) × AddRefused b formed given (numberOf (Refused r)) (valueOf (Refused r)) × (addedMembers b formed given ≡ (Refused r, b)))
-    ⊎ ((c : Context) × HeldBy 0 b c × NoneBreaks (AdditionBreaks (roomOf b) c formed given) × (addedMembers b formed given .0 ≡ Done (used c + writtenSize given)))
+    ⊎ ((c : Context) × HoldsContext 0 b c × NoneBreaks (AdditionBreaks (roomOf b) c formed given) × (addedMembers b formed given .0 ≡ Done (used c + writtenSize given)))
 
 -- and only one of these: the table gives an add one answer
 abbrev pub OneAnswer : Type 0
 OneAnswer =
     (b : List ℕ) (formed : Bool) (given : Body) (r : Refusal) → ((i : ℕ) → getD b i 0 < 256) → AddRefused b formed given (numberOf (Refused r)) (valueOf (Refused r))
     → ((s : Refusal) → AddRefused b formed given (numberOf (Refused s)) (valueOf (Refused s)) → s ≡ r)
-    × ((c : Context) → HeldBy 0 b c → NoneBreaks (AdditionBreaks (roomOf b) c formed given) → ⊥)
+    × ((c : Context) → HoldsContext 0 b c → NoneBreaks (AdditionBreaks (roomOf b) c formed given) → ⊥)
 
 -- "17, 9, 10, 11, 12, 13, 14, 15, 16, 18", in digits: after attributes of these types (the nearest first), with a room, a used length, a
--- type, a fault of 12 to 16 or none, and a size
+-- type, the first of 12 to 16 that it breaks, or 0, and a size
 pub record AddingInDigits : Type 0 where
   -- to 1,024 attributes a platform (9), malformed (12), past the room (18); to one fewer one more may come
-  pub seventeen : placementFault (replicate 1024 7) 65536 65536 1 12 88 ≡ 17
-  pub oneFewer : placementFault (replicate 1023 7) 65536 8192 7 0 96 ≡ 0
+  pub seventeen : appendCheck (replicate 1024 7) 65536 65536 1 12 88 ≡ 17
+  pub oneFewer : appendCheck (replicate 1023 7) 65536 8192 7 0 96 ≡ 0
   -- each malformed and past the room too
-  pub nine : placementFault [] 65536 65536 3 12 8 ≡ 9
-  pub ten : placementFault (4 ∷ 3 ∷ 2 ∷ 1 ∷ []) 527 432 3 12 96 ≡ 10
-  pub eleven : placementFault (3 ∷ 4 ∷ 2 ∷ 1 ∷ []) 527 432 4 12 96 ≡ 11
+  pub nine : appendCheck [] 65536 65536 3 12 8 ≡ 9
+  pub ten : appendCheck (4 ∷ 3 ∷ 2 ∷ 1 ∷ []) 527 432 3 12 96 ≡ 10
+  pub eleven : appendCheck (3 ∷ 4 ∷ 2 ∷ 1 ∷ []) 527 432 4 12 96 ≡ 11
   -- 96 bytes from 432 on end past 527, and not past 528
-  pub thirteen : placementFault (2 ∷ 1 ∷ []) 527 432 4 13 96 ≡ 13
-  pub eighteen : placementFault (2 ∷ 1 ∷ []) 527 432 4 0 96 ≡ 18
-  pub fits : placementFault (2 ∷ 1 ∷ []) 528 432 4 0 96 ≡ 0
+  pub thirteen : appendCheck (2 ∷ 1 ∷ []) 527 432 4 13 96 ≡ 13
+  pub eighteen : appendCheck (2 ∷ 1 ∷ []) 527 432 4 0 96 ≡ 18
+  pub fits : appendCheck (2 ∷ 1 ∷ []) 528 432 4 0 96 ≡ 0

@@ -7,16 +7,16 @@ use lib.ListN.{length}
 use lib.Dec.{leb, ltb}
 use Rattle.words.specs.Words.{littleEndian, replaced}
 use Rattle.byte_layout.specs.Stored.{over}
-use Rattle.ultra_format.specs.Refusals.{unless, firstOf, SHORT, FULL, ROOM}
-use Rattle.ultra_format.specs.Answers.{refused, orRefused}
+use Rattle.refusals.specs.Refusals.{unless, firstOf, SHORT, FULL, ROOM}
+use Rattle.refusals.specs.Answers.{refused, orRefused}
 use Rattle.ultra_format.specs.Layouts.{roomOf}
-use Rattle.ultra_format.specs.Places.{placeFault}
+use Rattle.ultra_format.specs.Places.{placeCheck}
 use Rattle.ultra_format.specs.Decoding.{pick, storedCount, typesBefore}
 use Rattle.ultra_format.specs.Contexts.{Body, typeOf}
 use Rattle.ultra_format.specs.Plain.{writtenSize}
-use Rattle.ultra_format.specs.Additions.{Addition, bodyGiven, formed, givenFault, newBytes}
-use Rattle.ultra_format.specs.declared.Answer.{Answer}
-use Rattle.ultra_format.specs.declared.Answer.the-variants.{Done, Refused}
+use Rattle.ultra_format.specs.Additions.{Addition, bodyGiven, formed, givenCheck, newBytes}
+use Rattle.refusals.specs.declared.Answer.{Answer}
+use Rattle.refusals.specs.declared.Answer.the-variants.{Done, Refused}
 use Rattle.ultra_reading.specs.Reading.{usedLength}
 
 -- ---- beginning
@@ -30,25 +30,25 @@ begun b = pick (leb 8 (roomOf b)) (Done 8, over emptyHead b) (refused SHORT 0, b
 
 -- ---- adding
 -- "Then, with the used length as offset: 17, 9, 10, 11, 12, 13, 14, 15, 16, 18, tried on the record given": the first of them, or 0, for
--- an attribute of type `t`, with the fault `fault` of 12 to 16 and of `size` bytes, behind attributes of the types `before` (the
+-- an attribute of type `t`, of which `number` is the first of 12 to 16 that it breaks, or 0, and of `size` bytes, after attributes of the types `before` (the
 -- nearest first) that end at `used`
-unfoldable pub placementFault : List ℕ → ℕ → ℕ → ℕ → ℕ → ℕ → ℕ
-placementFault before room used t fault size =
+unfoldable pub appendCheck : List ℕ → ℕ → ℕ → ℕ → ℕ → ℕ → ℕ
+appendCheck before room used t number size =
     unless (ltb (length before) 1024) FULL
-    (firstOf (placeFault before t)
-    (firstOf fault
+    (firstOf (placeCheck before t)
+    (firstOf number
     (unless (leb (used + size) room) ROOM
     0)))
 
 -- where the attribute goes in a buffer that has been read, or the refusal
 abbrev pub placementIn : List ℕ → ℕ → ℕ → ℕ → Answer → Answer
-placementIn b t fault size (Refused r) = Refused r
-placementIn b t fault size (Done n) =
-    orRefused (placementFault (typesBefore b (storedCount b)) (roomOf b) n t fault size) n (Done n)
+placementIn b t number size (Refused r) = Refused r
+placementIn b t number size (Done n) =
+    orRefused (appendCheck (typesBefore b (storedCount b)) (roomOf b) n t number size) n (Done n)
 
 -- "Adding first reads the buffer by all rules but the lower limit of the count, and gives that refusal."
 unfoldable pub placement : List ℕ → ℕ → ℕ → ℕ → Answer
-placement b t fault size = placementIn b t fault size (usedLength 0 b)
+placement b t number size = placementIn b t number size (usedLength 0 b)
 
 -- "raises the head's count by one"
 unfoldable pub counted : List ℕ → List ℕ
@@ -60,7 +60,7 @@ admittedAt b (Done n) = (Done n, counted b)
 admittedAt b (Refused r) = (Refused r, b)
 
 unfoldable pub admitted : List ℕ → ℕ → ℕ → ℕ → Answer × List ℕ
-admitted b t fault size = admittedAt b (placement b t fault size)
+admitted b t number size = admittedAt b (placement b t number size)
 
 -- "Success writes the body into the middle of the buffer, at the used length, raises the head's count by one and changes no other byte"
 abbrev pub withAttribute : List ℕ → ℕ → Body → List ℕ
@@ -73,7 +73,7 @@ addedAt b x (Refused r) = (Refused r, b)
 
 -- of members given, formed or not
 unfoldable pub addedMembers : List ℕ → Bool → Body → Answer × List ℕ
-addedMembers b formed x = addedAt b x (placement b (typeOf x) (givenFault formed x) (writtenSize x))
+addedMembers b formed x = addedAt b x (placement b (typeOf x) (givenCheck formed x) (writtenSize x))
 
 -- of what an add is given
 abbrev pub added : List ℕ → Addition → Answer × List ℕ

@@ -6,7 +6,7 @@ ghost use Rattle.ultra_building.specs.Building.{added};
 use crate::late_members;
 use crate::members;
 use crate::place::admit;
-use ultra_format::Answer;
+use refusals::Answer;
 use ultra_format::FramebufferRecord;
 use ultra_format::KernelRecord;
 use ultra_format::ModuleRecord;
@@ -18,7 +18,7 @@ pub fn add_platform(buf: &mut [u8], given: PlatformRecord) -> Answer
 {
     let complete = late_members::complete(given);
     let name = given.name;
-    let length = ultra_given::texts::trimmed_length(&name);
+    let length = ultra_arguments::texts::trimmed_length(&name);
     let base = given.higher_half_base;
     let depth = given.depth;
     let dtb = given.dtb;
@@ -45,7 +45,7 @@ pub fn add_kernel(buf: &mut [u8], given: KernelRecord) -> Answer
     let disk = given.disk_guid;
     let partition = given.partition_guid;
     let path = given.path;
-    let length = ultra_given::texts::trimmed_length(&path);
+    let length = ultra_arguments::texts::trimmed_length(&path);
     members::add_kernel(
         buf,
         given.physical_base,
@@ -64,9 +64,9 @@ pub fn add_kernel(buf: &mut [u8], given: KernelRecord) -> Answer
 pub fn add_map(buf: &mut [u8], numbers: &[u64]) -> Answer
     ensures { λ r. ⌜ (r, now (buf .exit)) ≡ added (now (buf .entry)) (Addition.addMap (now (numbers .entry))) ⌝ }
 {
-    let fault = ultra_given::map::fault(numbers);
+    let number = ultra_arguments::map::check(numbers);
     let size = ultra_writing::map::size(numbers);
-    let answer = admit(buf, 3, fault, size);
+    let answer = admit(buf, 3, number, size);
     let Answer::Done(used) = answer else {
         return answer;
     };
@@ -79,7 +79,7 @@ pub fn add_module(buf: &mut [u8], given: ModuleRecord) -> Answer
     ensures { λ r. ⌜ (r, now (buf .exit)) ≡ added (now (buf .entry)) (Addition.addModule given) ⌝ }
 {
     let name = given.name;
-    let length = ultra_given::texts::trimmed_length(&name);
+    let length = ultra_arguments::texts::trimmed_length(&name);
     members::add_module(buf, given.kind, &name[0..length], given.address, given.size)
 }
 
@@ -87,9 +87,9 @@ pub fn add_module(buf: &mut [u8], given: ModuleRecord) -> Answer
 pub fn add_command_line(buf: &mut [u8], text: &[u8]) -> Answer
     ensures { λ r. ⌜ (r, now (buf .exit)) ≡ added (now (buf .entry)) (Addition.addCommandLine (now (text .entry))) ⌝ }
 {
-    let fault = ultra_given::command_line::fault(text);
+    let number = ultra_arguments::command_line::check(text);
     let size = ultra_writing::command_line::size(text);
-    let answer = admit(buf, 5, fault, size);
+    let answer = admit(buf, 5, number, size);
     let Answer::Done(used) = answer else {
         return answer;
     };
@@ -101,8 +101,8 @@ pub fn add_command_line(buf: &mut [u8], text: &[u8]) -> Answer
 pub fn add_framebuffer(buf: &mut [u8], given: FramebufferRecord) -> Answer
     ensures { λ r. ⌜ (r, now (buf .exit)) ≡ added (now (buf .entry)) (Addition.addFramebuffer given) ⌝ }
 {
-    let fault = ultra_given::framebuffer::fault(given);
-    let answer = admit(buf, 6, fault, 32);
+    let number = ultra_arguments::framebuffer::check(given);
+    let answer = admit(buf, 6, number, 32);
     let Answer::Done(used) = answer else {
         return answer;
     };

@@ -12,15 +12,15 @@ pub use adds::add_kernel;
 pub use adds::add_map;
 pub use adds::add_module;
 pub use adds::add_platform;
-use ultra_format::Answer;
-use ultra_format::Refusal;
+use refusals::Answer;
+use refusals::Refusal;
 
 // Begins a context without attributes, whatever the buffer holds.
 pub fn begin(buf: &mut [u8]) -> Answer
     ensures { λ r. ⌜ (r, now (buf .exit)) ≡ begun (now (buf .entry)) ⌝ }
 {
     if buf.len() < 8 {
-        return Answer::Refused(Refusal::new(ultra_format::SHORT, 0));
+        return Answer::Refused(Refusal::new(refusals::SHORT, 0));
     }
     words::store_u64(buf, 0, 1);
     Answer::Done(8)

@@ -6,7 +6,7 @@ ghost use mathlib.Core.Bool.{true};
 ghost use Rattle.ultra_format.specs.Additions.{platformOf, kernelOf, mapOf, moduleOf, mapFormed, guidsFormed};
 ghost use Rattle.ultra_building.specs.Building.{addedMembers};
 use crate::place::admit;
-use ultra_format::Answer;
+use refusals::Answer;
 
 // Adds a platform; `complete` says that no member is absent.
 pub fn add_platform(
@@ -24,8 +24,8 @@ pub fn add_platform(
 ) -> Answer
     ensures { λ r. ⌜ (r, now (buf .exit)) ≡ addedMembers (now (buf .entry)) complete (platformOf kind major minor (now (name .entry)) rsdp base depth dtb smbios) ⌝ }
 {
-    let fault = ultra_given::platform::fault(complete, kind, name);
-    let answer = admit(buf, 1, fault, 88);
+    let number = ultra_arguments::platform::check(complete, kind, name);
+    let answer = admit(buf, 1, number, 88);
     let Answer::Done(used) = answer else {
         return answer;
     };
@@ -59,8 +59,16 @@ pub fn add_kernel(
 ) -> Answer
     ensures { λ r. ⌜ (r, now (buf .exit)) ≡ addedMembers (now (buf .entry)) (guidsFormed (now (disk .entry)) (now (partition .entry))) (kernelOf phys virt size «partition_type» (now (disk .entry)) (now (partition .entry)) «disk_index» «partition_index» (now (path .entry))) ⌝ }
 {
-    let fault = ultra_given::kernel::fault(phys, virt, size, partition_type, disk, partition, path);
-    let answer = admit(buf, 2, fault, 336);
+    let number = ultra_arguments::kernel::check(
+        phys,
+        virt,
+        size,
+        partition_type,
+        disk,
+        partition,
+        path,
+    );
+    let answer = admit(buf, 2, number, 336);
     let Answer::Done(used) = answer else {
         return answer;
     };
@@ -83,9 +91,9 @@ pub fn add_kernel(
 pub fn add_map(buf: &mut [u8], entries: &[u8]) -> Answer
     ensures { λ r. ⌜ (r, now (buf .exit)) ≡ addedMembers (now (buf .entry)) (mapFormed (now (entries .entry))) (mapOf (now (entries .entry))) ⌝ }
 {
-    let fault = ultra_given::map::bytes_fault(entries);
+    let number = ultra_arguments::map::bytes_check(entries);
     let size = 8 + entries.len() / 24 * 24;
-    let answer = admit(buf, 3, fault, size);
+    let answer = admit(buf, 3, number, size);
     let Answer::Done(used) = answer else {
         return answer;
     };
@@ -97,8 +105,8 @@ pub fn add_map(buf: &mut [u8], entries: &[u8]) -> Answer
 pub fn add_module(buf: &mut [u8], kind: u32, name: &[u8], address: u64, size: u64) -> Answer
     ensures { λ r. ⌜ (r, now (buf .exit)) ≡ addedMembers (now (buf .entry)) true (moduleOf kind (now (name .entry)) address size) ⌝ }
 {
-    let fault = ultra_given::module::fault(kind, name, address, size);
-    let answer = admit(buf, 4, fault, 96);
+    let number = ultra_arguments::module::check(kind, name, address, size);
+    let answer = admit(buf, 4, number, 96);
     let Answer::Done(used) = answer else {
         return answer;
     };

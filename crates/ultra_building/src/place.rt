@@ -3,25 +3,25 @@ ghost use mathlib.Core.Path.{_≡_};
 ghost use Prim.Native.Nat.{_≤_};
 ghost use Rattle.ultra_format.specs.Layouts.{roomOf};
 ghost use Rattle.ultra_format.specs.Decoding.{storedCount, typesBefore};
-ghost use Rattle.ultra_format.specs.declared.Answer.the-variants.{Done};
+ghost use Rattle.refusals.specs.declared.Answer.the-variants.{Done};
 ghost use Rattle.ultra_reading.specs.Reading.{usedLength};
-ghost use Rattle.ultra_building.specs.Building.{placementFault, placement, admitted};
-use ultra_format::Answer;
-use ultra_format::Refusal;
+ghost use Rattle.ultra_building.specs.Building.{appendCheck, placement, admitted};
+use refusals::Answer;
+use refusals::Refusal;
 
 // The first of 17, 9 to 16 and 18 that an attribute of type `kind` and of `size` bytes breaks at the used length `used`, or 0; `given` is
-// the fault of 12 to 16 that its members have by themselves.
-fn fault(buf: &[u8], used: u32, kind: u32, given: u32, size: usize) -> u32
+// the first of 12 to 16 that its members break by themselves, or 0.
+fn check(buf: &[u8], used: u32, kind: u32, given: u16, size: usize) -> u16
     requires { ⌜ usedLength 0 (now buf) ≡ Done used ⌝ }
     requires { ⌜ 1 ≤ kind ⌝ }
-    ensures { λ r. ⌜ r ≡ placementFault (typesBefore (now (buf .entry)) (storedCount (now (buf .entry)))) (roomOf (now (buf .entry))) used kind given size ⌝ }
+    ensures { λ r. ⌜ r ≡ appendCheck (typesBefore (now (buf .entry)) (storedCount (now (buf .entry)))) (roomOf (now (buf .entry))) used kind given size ⌝ }
 {
     let count = words::load_u32(buf, 4);
     if 1024 <= count {
-        return ultra_format::FULL;
+        return refusals::FULL;
     }
     let room = ultra_reading::room(buf);
-    let place = ultra_reading::next_place_fault(buf, room, count, kind);
+    let place = ultra_reading::next_place_check(buf, room, count, kind);
     let short = room - (used as usize) < size;
     if place != 0 {
         return place;
@@ -30,13 +30,13 @@ fn fault(buf: &[u8], used: u32, kind: u32, given: u32, size: usize) -> u32
         return given;
     }
     if short {
-        return ultra_format::ROOM;
+        return refusals::ROOM;
     }
     0
 }
 
 // Where the attribute goes, or the refusal: that of reading first.
-fn find(buf: &[u8], kind: u32, given: u32, size: usize) -> Answer
+fn find(buf: &[u8], kind: u32, given: u16, size: usize) -> Answer
     requires { ⌜ 1 ≤ kind ⌝ }
     ensures { λ r. ⌜ r ≡ placement (now (buf .entry)) kind given size ⌝ }
 {
@@ -44,7 +44,7 @@ fn find(buf: &[u8], kind: u32, given: u32, size: usize) -> Answer
     let Answer::Done(used) = answer else {
         return answer;
     };
-    let number = fault(buf, used, kind, given, size);
+    let number = check(buf, used, kind, given, size);
     if number != 0 {
         return Answer::Refused(Refusal::new(number, used));
     }
@@ -52,7 +52,7 @@ fn find(buf: &[u8], kind: u32, given: u32, size: usize) -> Answer
 }
 
 // Finds the attribute's place and counts it in the head.
-pub fn admit(buf: &mut [u8], kind: u32, given: u32, size: usize) -> Answer
+pub fn admit(buf: &mut [u8], kind: u32, given: u16, size: usize) -> Answer
     requires { ⌜ 1 ≤ kind ⌝ }
     ensures { λ r. ⌜ (r, now (buf .exit)) ≡ admitted (now (buf .entry)) kind given size ⌝ }
 {

@@ -97,7 +97,7 @@ pub width-layout : (c : Context) → Sized (c .attributes) → width (layout c) 
 unfolding width
 width-layout c z = let e = width-attributes (c .attributes) z in omega arith
 
--- what the body at an index fits: its fields, behind type and size
+-- what the body at an index fits: its fields, after type and size
 pub body-fits : {fewest room : ℕ} {c : Context} → Meets fewest room c → (i : ℕ) → i < count c → Fits (bodyFields (sizeAt c i) (bodyAt c i))
 unfolding Fits
 body-fits {c = c} m i h = each-fits (c .attributes) (m .fits .1 .1 .1 .1) i h .1 .1

@@ -21,7 +21,7 @@ use Rattle.ultra_format.specs.Layouts.{memberFields, depthFields, entrie
 use Rattle.ultra_format.specs.Members.{presentIf, sizeSuits}
 use Rattle.ultra_format.specs.Rules.{TypeSuits}
 use Rattle.ultra_format.specs.Decoding.{pick, memberWhen, memberAt, platformAt, kernelAt, entriesAt, moduleAt, framebufferAt, decoded}
-use Rattle.ultra_format.proofs.Chains.{both-hold}
+use Rattle.refusals.proofs.Chains.{both-hold}
 
 -- ---- by the type
 -- a type that the table has no row for

@@ -20,7 +20,7 @@ use Rattle.ultra_format.specs.declared.records.OptionalU64.the-variants 
 use Rattle.ultra_format.specs.declared.records.OptionalU8.{OptionalU8}
 use Rattle.ultra_format.specs.declared.records.OptionalU8.the-variants as narrow
 
--- ---- texts: the zeros that `padded` puts behind one are all that `trimmed` takes away
+-- ---- texts: the zeros that `padded` puts after one are all that `trimmed` takes away
 zeros-trimmed : (k : ℕ) → trimmed (padded k []) ≡ []
 unfolding trimmed
 zeros-trimmed zero = refl

@@ -1,4 +1,3 @@
-pub mod Chains
 pub mod MapOrder
 pub mod Bodies
 pub mod Sizes

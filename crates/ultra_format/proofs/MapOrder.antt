@@ -11,7 +11,7 @@ use borrow.Author.Tests.{leb-true, le-leb, ltb-true, ltb-false}
 use Rattle.ultra_format.specs.Contexts.{Entry}
 use Rattle.ultra_format.specs.Members.{startsFrom, entriesOrdered, ordered}
 use Rattle.ultra_format.specs.MapOrder.{entryIn, InOrder, Apart, MapsOrdered}
-use Rattle.ultra_format.proofs.Chains.{both-hold}
+use Rattle.refusals.proofs.Chains.{both-hold}
 
 in-order : (es : List Entry) → entriesOrdered es ≡ true → InOrder es
 unfolding entriesOrdered

@@ -7,14 +7,14 @@ use mathlib.Core.List.{List, [], _∷_}
 use lib.Dec.{eqb}
 use borrow.Author.Tests.{eqb-true}
 use Rattle.words.specs.Words.{numberAt, numbersAt}
-use Rattle.ultra_format.specs.Members.{every, sizeSuits, values, kernelValues, moduleValues, bppSuits, framebufferValues, texts, asciiText, pathText, ranges, ordered, entriesOrdered, bodyFault}
-use Rattle.ultra_format.specs.Places.{placed, occurs, placeFault}
+use Rattle.ultra_format.specs.Members.{every, sizeSuits, values, kernelValues, moduleValues, bppSuits, framebufferValues, texts, asciiText, pathText, ranges, ordered, entriesOrdered, bodyCheck}
+use Rattle.ultra_format.specs.Places.{placed, occurs, placeCheck}
 use Rattle.ultra_format.specs.Plain.{writtenSize}
 use Rattle.ultra_format.specs.Records.{trimmed}
-use Rattle.ultra_format.specs.Additions.{entriesGiven, bodyGiven, givenFault}
+use Rattle.ultra_format.specs.Additions.{entriesGiven, bodyGiven, givenCheck}
 use Rattle.ultra_format.specs.MemberCases.{Case, AllHold, cases, ListsGiven, Rooms}
 use Rattle.ultra_format.specs.MemberCases.{Case._gives_, Case._is_}
-use Rattle.ultra_format.proofs.Chains.{both-hold}
+use Rattle.refusals.proofs.Chains.{both-hold}
 
 alike : Bool → Bool → Bool
 alike true v = v
@@ -40,7 +40,7 @@ tested (x gives n ∷ cs) e = let h = both-hold (eqb x n) (tests cs) e in (eqb-t
 tested (x is v ∷ cs) e = let h = both-hold (alike x v) (tests cs) e in (alike-true x v (h .0), tested cs (h .1))
 
 pub member-cases : AllHold cases
-unfolding tests alike every sizeSuits values kernelValues moduleValues bppSuits framebufferValues texts asciiText pathText ranges ordered entriesOrdered bodyFault placed occurs placeFault writtenSize entriesGiven bodyGiven givenFault numberAt numbersAt
+unfolding tests alike every sizeSuits values kernelValues moduleValues bppSuits framebufferValues texts asciiText pathText ranges ordered entriesOrdered bodyCheck placed occurs placeCheck writtenSize entriesGiven bodyGiven givenCheck numberAt numbersAt
 member-cases = tested cases refl
 
 pub lists-given : ListsGiven

@@ -12,10 +12,11 @@ use lib.Dec.{leb, ltb, eqb}
 use borrow.Author.Tests.{leb-true, leb-false, le-leb, lt-leb, ltb-true, lt-ltb, eqb-true, eqb-false, eq-eqb, ne-eqb, not-true}
 use Rattle.ultra_format.specs.Contexts.{Member, Entry}
 use Rattle.ultra_format.specs.Contexts.{Member.present, Member.absent}
-use Rattle.ultra_format.specs.Members.{every, presentIf, sizeSuits, nonzero, pageAligned, entryTyped, kernelValues, moduleValues, bppSuits, framebufferValues, values, ascii, asciiText, pathText, texts, rangeFits, entryFits, ranges}
+use Rattle.address_ranges.specs.Ranges.{pageAligned, rangeFits}
+use Rattle.ultra_format.specs.Members.{every, presentIf, sizeSuits, nonzero, entryTyped, kernelValues, moduleValues, bppSuits, framebufferValues, values, ascii, asciiText, pathText, texts, entryFits, ranges}
 use Rattle.ultra_format.specs.MapOrder.{entryIn}
 use Rattle.ultra_format.specs.MemberRules.{Multiple, PresentFrom, AsciiWithin, PathWithin, Ends, MemberRules}
-use Rattle.ultra_format.proofs.Chains.{both-hold}
+use Rattle.refusals.proofs.Chains.{both-hold}
 
 -- ---- tests
 module _ {A B : Type 0} (x y : Bool) where

@@ -11,7 +11,7 @@ use Rattle.ultra_format.specs.Contexts.{Body}
 use Rattle.ultra_format.specs.Contexts.{Body.platform}
 use Rattle.ultra_format.specs.Members.{sizeSuits}
 use Rattle.ultra_format.specs.Decoding.{decoded, platformAt, entriesAt}
-use Rattle.ultra_format.proofs.Chains.{both-hold}
+use Rattle.refusals.proofs.Chains.{both-hold}
 use Rattle.ultra_format.proofs.Bodies as bodies
 
 module _ (b : List ℕ) (o s : ℕ) where

@@ -22,7 +22,7 @@ use Rattle.ultra_format.specs.Rules.{TypeSuits, AttributeMeets, Meets}
 use Rattle.ultra_format.specs.Plain.{writtenSize, Plain}
 use Rattle.ultra_format.specs.Decoding.{contextOf, attributesFrom, start, decoded, entriesAt}
 use Rattle.ultra_format.specs.Examples.{ShortPlatform, listed, listedBytes, everyType, junk, everyTypeBytes, sixTypes, sixTypesBytes}
-use Rattle.ultra_format.proofs.Chains.{both-hold}
+use Rattle.refusals.proofs.Chains.{both-hold}
 use Rattle.ultra_format.proofs.Attributes.{width-attribute, at, Sized, Says, says-fits, says-opens}
 use Rattle.ultra_format.proofs.Decoded.{says-decoded}
 

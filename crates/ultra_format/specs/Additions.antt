@@ -7,11 +7,11 @@ use mathlib.Core.List.{List, [], _∷_}
 use lib.ListN.{length}
 use lib.Dec.{eqb}
 use Rattle.words.specs.Words.{numbersIn}
-use Rattle.ultra_format.specs.Refusals.{unless, FORM}
+use Rattle.refusals.specs.Refusals.{unless, FORM}
 use Rattle.ultra_format.specs.Contexts.{Entry, Body, typeOf, Attribute}
 use Rattle.ultra_format.specs.Contexts.{Member.present, Body.platform, Body.kernel, Body.memoryMap, Body.moduleInfo, Body.commandLine, Body.framebuffer}
 use Rattle.ultra_format.specs.Layouts.{attributeWritten}
-use Rattle.ultra_format.specs.Members.{bodyFault}
+use Rattle.ultra_format.specs.Members.{sizeSuits, values, texts, ranges, ordered, memberCheck}
 use Rattle.ultra_format.specs.Plain.{writtenSize}
 use Rattle.ultra_format.specs.Records.{platformGiven, kernelGiven, moduleGiven, framebufferGiven}
 use Rattle.ultra_format.specs.declared.records.PlatformRecord.{PlatformRecord}
@@ -124,8 +124,13 @@ guidsFormed disk partition = eqb (length disk) 16 && eqb (length partition) 16
 -- of members given, formed or not: the rules of reading on the attribute that they become. "A platform record with an absent member is
 -- refused as 12": its 88 bytes have space for every member (sizeSuits). "A text given is refused as 14 if it holds a zero byte or leaves
 -- no place for its closing zero in a fixed field": no zero is a byte of a text, and a text is shorter than its field (texts).
-unfoldable pub givenFault : Bool → Body → ℕ
-givenFault formed x = unless formed FORM (bodyFault (writtenSize x) x)
+-- Only the values could be judged otherwise than in reading (document 02, R-11); today they are not.
+abbrev pub valuesGiven : Body → Bool
+valuesGiven x = values x
 
-abbrev pub additionFault : Addition → ℕ
-additionFault g = givenFault (formed g) (bodyGiven g)
+unfoldable pub givenCheck : Bool → Body → ℕ
+givenCheck formed x =
+    unless formed FORM (memberCheck (sizeSuits (writtenSize x) x) (valuesGiven x) (texts (writtenSize x) x) (ranges x) (ordered x))
+
+abbrev pub additionCheck : Addition → ℕ
+additionCheck g = givenCheck (formed g) (bodyGiven g)

@@ -92,7 +92,7 @@ decoded b o s t =
     (other t))))))
 
 -- ---- the context
--- where attribute i starts: behind the head and the attributes before it
+-- where attribute i starts: after the head and the attributes before it
 unfoldable pub start : List ℕ → ℕ → ℕ
 start b zero = 8
 start b (suc i) = start b i + u32At b (start b i + 4)

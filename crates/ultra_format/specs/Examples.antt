@@ -159,7 +159,7 @@ everyType =
 abbrev pub junk : ℕ → List ℕ
 junk n = replicate n 165
 
--- 688 bytes are used, and five silent ones are behind them
+-- 688 bytes are used, and five silent ones are after them
 abbrev pub everyTypeBytes : List ℕ
 everyTypeBytes =
     (2 ∷ 7 ∷ 165 ∷ 165 ∷ 7 ∷ 0 ∷ 0 ∷ 0 ∷ [])

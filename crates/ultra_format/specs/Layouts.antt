@@ -16,7 +16,7 @@ abbrev pub memberFields : ℕ → Member → List Field
 memberFields k (present n) = number k n ∷ []
 memberFields k absent = []
 
--- the depth is one byte, with "reserved 65..71" behind it
+-- the depth is one byte, with "reserved 65..71" after it
 abbrev pub depthFields : Member → List Field
 depthFields (present n) = number 1 n ∷ padding 7 ∷ []
 depthFields absent = []

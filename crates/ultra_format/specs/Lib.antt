@@ -1,5 +1,3 @@
-pub mod Refusals
-pub mod Answers
 pub mod Contexts
 pub mod Layouts
 pub mod Members

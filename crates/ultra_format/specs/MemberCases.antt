@@ -7,16 +7,16 @@ use mathlib.Core.Path.{_≡_}
 use mathlib.Core.Bool.{Bool, true, false}
 use mathlib.Core.List.{List, [], _∷_, _++_}
 use lib.ListN.{length, replicate}
-use Rattle.ultra_format.specs.Refusals.{SHORT, VERSION, COUNT, MISSING, HEADER, SIZE, OVERRUN, TYPE, PLACE, REPEAT, SPLIT, FORM, VALUE, TEXT, RANGE, ORDER, FULL, ROOM, ABSENT}
-use Rattle.ultra_format.specs.Answers.{refused, numberOf, valueOf}
-use Rattle.ultra_format.specs.declared.Answer.the-variants.{Done}
+use Rattle.refusals.specs.Refusals.{SHORT, VERSION, COUNT, MISSING, HEADER, SIZE, OVERRUN, TYPE, PLACE, REPEAT, SPLIT, FORM, VALUE, TEXT, RANGE, ORDER, FULL, ROOM, ABSENT}
+use Rattle.refusals.specs.Answers.{refused, numberOf, valueOf}
+use Rattle.refusals.specs.declared.Answer.the-variants.{Done}
 use Rattle.ultra_format.specs.Contexts.{Member, Entry, Body}
 use Rattle.ultra_format.specs.Contexts.{Member.present, Member.absent, Body.platform, Body.memoryMap, Body.commandLine, Body.other}
 use Rattle.ultra_format.specs.Layouts.{roomOf}
-use Rattle.ultra_format.specs.Members.{bodyFault}
-use Rattle.ultra_format.specs.Places.{placed, single, repeatable, placeFault}
+use Rattle.ultra_format.specs.Members.{bodyCheck}
+use Rattle.ultra_format.specs.Places.{placed, single, repeatable, placeCheck}
 use Rattle.ultra_format.specs.Records.{trimmed}
-use Rattle.ultra_format.specs.Additions.{kernelOf, moduleOf, framebufferOf, entriesGiven, mapOf, mapFormed, guidsFormed, givenFault, additionFault}
+use Rattle.ultra_format.specs.Additions.{kernelOf, moduleOf, framebufferOf, entriesGiven, mapOf, mapFormed, guidsFormed, givenCheck, additionCheck}
 use Rattle.ultra_format.specs.Additions.{Addition.addMap}
 use Rattle.ultra_format.specs.Examples.{zeros}
 
@@ -99,224 +99,224 @@ pixels format bpp = framebufferOf 1 1 4 bpp format 0
 abbrev pub sizeCases : List Case
 sizeCases =
     -- platform "at least 56"; members from the higher half base on "are present exactly if they end within the size"
-    bodyFault 55 (latePlatform absent absent absent absent) gives 12
-    ∷ bodyFault 56 (latePlatform absent absent absent absent) gives 0
-    ∷ bodyFault 56 (latePlatform there absent absent absent) gives 12
-    ∷ bodyFault 56 (latePlatform absent there absent absent) gives 12
-    ∷ bodyFault 56 (latePlatform absent absent there absent) gives 12
-    ∷ bodyFault 56 (latePlatform absent absent absent there) gives 12
-    ∷ bodyFault 63 (latePlatform there absent absent absent) gives 12
-    ∷ bodyFault 64 (latePlatform absent absent absent absent) gives 12
-    ∷ bodyFault 64 (latePlatform there absent absent absent) gives 0
-    ∷ bodyFault 64 (latePlatform there there absent absent) gives 12
-    ∷ bodyFault 65 (latePlatform there there absent absent) gives 0
-    ∷ bodyFault 72 (latePlatform there absent absent absent) gives 12
-    ∷ bodyFault 72 (latePlatform there there absent absent) gives 0
-    ∷ bodyFault 79 (latePlatform there there there absent) gives 12
-    ∷ bodyFault 80 (latePlatform there there absent absent) gives 12
-    ∷ bodyFault 80 (latePlatform there there there absent) gives 0
-    ∷ bodyFault 87 (latePlatform there there there there) gives 12
-    ∷ bodyFault 88 (latePlatform there there there there) gives 0
-    ∷ bodyFault 88 (latePlatform absent there there there) gives 12
-    ∷ bodyFault 88 (latePlatform there absent there there) gives 12
-    ∷ bodyFault 88 (latePlatform there there absent there) gives 12
-    ∷ bodyFault 88 (latePlatform there there there absent) gives 12
-    ∷ bodyFault 96 (latePlatform there there there there) gives 0
-    ∷ bodyFault 65528 (latePlatform there there there there) gives 0
+    bodyCheck 55 (latePlatform absent absent absent absent) gives 12
+    ∷ bodyCheck 56 (latePlatform absent absent absent absent) gives 0
+    ∷ bodyCheck 56 (latePlatform there absent absent absent) gives 12
+    ∷ bodyCheck 56 (latePlatform absent there absent absent) gives 12
+    ∷ bodyCheck 56 (latePlatform absent absent there absent) gives 12
+    ∷ bodyCheck 56 (latePlatform absent absent absent there) gives 12
+    ∷ bodyCheck 63 (latePlatform there absent absent absent) gives 12
+    ∷ bodyCheck 64 (latePlatform absent absent absent absent) gives 12
+    ∷ bodyCheck 64 (latePlatform there absent absent absent) gives 0
+    ∷ bodyCheck 64 (latePlatform there there absent absent) gives 12
+    ∷ bodyCheck 65 (latePlatform there there absent absent) gives 0
+    ∷ bodyCheck 72 (latePlatform there absent absent absent) gives 12
+    ∷ bodyCheck 72 (latePlatform there there absent absent) gives 0
+    ∷ bodyCheck 79 (latePlatform there there there absent) gives 12
+    ∷ bodyCheck 80 (latePlatform there there absent absent) gives 12
+    ∷ bodyCheck 80 (latePlatform there there there absent) gives 0
+    ∷ bodyCheck 87 (latePlatform there there there there) gives 12
+    ∷ bodyCheck 88 (latePlatform there there there there) gives 0
+    ∷ bodyCheck 88 (latePlatform absent there there there) gives 12
+    ∷ bodyCheck 88 (latePlatform there absent there there) gives 12
+    ∷ bodyCheck 88 (latePlatform there there absent there) gives 12
+    ∷ bodyCheck 88 (latePlatform there there there absent) gives 12
+    ∷ bodyCheck 96 (latePlatform there there there there) gives 0
+    ∷ bodyCheck 65528 (latePlatform there there there there) gives 0
     -- kernel "at least 336"
-    ∷ bodyFault 335 (kernelAcross 0 0 0) gives 12
-    ∷ bodyFault 336 (kernelAcross 0 0 0) gives 0
-    ∷ bodyFault 344 (kernelAcross 0 0 0) gives 0
-    ∷ bodyFault 65528 (kernelAcross 0 0 0) gives 0
+    ∷ bodyCheck 335 (kernelAcross 0 0 0) gives 12
+    ∷ bodyCheck 336 (kernelAcross 0 0 0) gives 0
+    ∷ bodyCheck 344 (kernelAcross 0 0 0) gives 0
+    ∷ bodyCheck 65528 (kernelAcross 0 0 0) gives 0
     -- map "8 + 24n, n from 0"
-    ∷ bodyFault 8 (memoryMap []) gives 0
-    ∷ bodyFault 16 (memoryMap []) gives 12
-    ∷ bodyFault 24 (memoryMap []) gives 12
-    ∷ bodyFault 24 (oneRange 0 0 1) gives 12
-    ∷ bodyFault 32 (oneRange 0 0 1) gives 0
-    ∷ bodyFault 40 (oneRange 0 0 1) gives 12
-    ∷ bodyFault 48 (twoRanges (range 0 0 1) (range 0 0 1)) gives 12
-    ∷ bodyFault 56 (twoRanges (range 0 0 1) (range 0 0 1)) gives 0
-    ∷ bodyFault 64 (twoRanges (range 0 0 1) (range 0 0 1)) gives 12
+    ∷ bodyCheck 8 (memoryMap []) gives 0
+    ∷ bodyCheck 16 (memoryMap []) gives 12
+    ∷ bodyCheck 24 (memoryMap []) gives 12
+    ∷ bodyCheck 24 (oneRange 0 0 1) gives 12
+    ∷ bodyCheck 32 (oneRange 0 0 1) gives 0
+    ∷ bodyCheck 40 (oneRange 0 0 1) gives 12
+    ∷ bodyCheck 48 (twoRanges (range 0 0 1) (range 0 0 1)) gives 12
+    ∷ bodyCheck 56 (twoRanges (range 0 0 1) (range 0 0 1)) gives 0
+    ∷ bodyCheck 64 (twoRanges (range 0 0 1) (range 0 0 1)) gives 12
     -- module "at least 96"
-    ∷ bodyFault 95 (moduleOf 1 [] 0 0) gives 12
-    ∷ bodyFault 96 (moduleOf 1 [] 0 0) gives 0
-    ∷ bodyFault 104 (moduleOf 1 [] 0 0) gives 0
-    ∷ bodyFault 65528 (moduleOf 1 [] 0 0) gives 0
+    ∷ bodyCheck 95 (moduleOf 1 [] 0 0) gives 12
+    ∷ bodyCheck 96 (moduleOf 1 [] 0 0) gives 0
+    ∷ bodyCheck 104 (moduleOf 1 [] 0 0) gives 0
+    ∷ bodyCheck 65528 (moduleOf 1 [] 0 0) gives 0
     -- command line "at least 16"
-    ∷ bodyFault 8 (commandLine []) gives 12
-    ∷ bodyFault 15 (commandLine []) gives 12
-    ∷ bodyFault 16 (commandLine []) gives 0
-    ∷ bodyFault 65528 (commandLine []) gives 0
+    ∷ bodyCheck 8 (commandLine []) gives 12
+    ∷ bodyCheck 15 (commandLine []) gives 12
+    ∷ bodyCheck 16 (commandLine []) gives 0
+    ∷ bodyCheck 65528 (commandLine []) gives 0
     -- framebuffer "at least 32"
-    ∷ bodyFault 31 (pixels 3 32) gives 12
-    ∷ bodyFault 32 (pixels 3 32) gives 0
-    ∷ bodyFault 40 (pixels 3 32) gives 0
-    ∷ bodyFault 65528 (pixels 3 32) gives 0
+    ∷ bodyCheck 31 (pixels 3 32) gives 12
+    ∷ bodyCheck 32 (pixels 3 32) gives 0
+    ∷ bodyCheck 40 (pixels 3 32) gives 0
+    ∷ bodyCheck 65528 (pixels 3 32) gives 0
     -- types from 7 up have no row
-    ∷ bodyFault 8 (other 7) gives 0
-    ∷ bodyFault 65528 (other 4294967295) gives 0
+    ∷ bodyCheck 8 (other 7) gives 0
+    ∷ bodyCheck 65528 (other 4294967295) gives 0
     ∷ []
 
 -- ---- "values"
 abbrev pub valueCases : List Case
 valueCases =
     -- "platform type, partition type and every map type not 0 (others accepted)"
-    bodyFault 56 (shortPlatform 0 []) gives 13
-    ∷ bodyFault 56 (shortPlatform 1 []) gives 0
-    ∷ bodyFault 56 (shortPlatform 4294967295 []) gives 0
-    ∷ bodyFault 336 (kernelWith 0 0 0 0 (slashAnd 0)) gives 13
-    ∷ bodyFault 336 (kernelWith 0 0 0 1 (slashAnd 0)) gives 0
-    ∷ bodyFault 336 (kernelWith 0 0 0 4294967296 (slashAnd 0)) gives 0
-    ∷ bodyFault 32 (oneRange 0 0 0) gives 13
-    ∷ bodyFault 32 (oneRange 0 0 4294967296) gives 0
-    ∷ bodyFault 56 (twoRanges (range 0 0 1) (range 0 0 0)) gives 13
-    ∷ bodyFault 56 (twoRanges (range 0 0 1) (range 0 0 4294967296)) gives 0
+    bodyCheck 56 (shortPlatform 0 []) gives 13
+    ∷ bodyCheck 56 (shortPlatform 1 []) gives 0
+    ∷ bodyCheck 56 (shortPlatform 4294967295 []) gives 0
+    ∷ bodyCheck 336 (kernelWith 0 0 0 0 (slashAnd 0)) gives 13
+    ∷ bodyCheck 336 (kernelWith 0 0 0 1 (slashAnd 0)) gives 0
+    ∷ bodyCheck 336 (kernelWith 0 0 0 4294967296 (slashAnd 0)) gives 0
+    ∷ bodyCheck 32 (oneRange 0 0 0) gives 13
+    ∷ bodyCheck 32 (oneRange 0 0 4294967296) gives 0
+    ∷ bodyCheck 56 (twoRanges (range 0 0 1) (range 0 0 0)) gives 13
+    ∷ bodyCheck 56 (twoRanges (range 0 0 1) (range 0 0 4294967296)) gives 0
     -- "module type 1 or 2"
-    ∷ bodyFault 96 (moduleOf 0 [] 0 0) gives 13
-    ∷ bodyFault 96 (moduleOf 1 [] 0 0) gives 0
-    ∷ bodyFault 96 (moduleOf 2 [] 0 0) gives 0
-    ∷ bodyFault 96 (moduleOf 3 [] 0 0) gives 13
-    ∷ bodyFault 96 (moduleOf 257 [] 0 0) gives 13
-    ∷ bodyFault 96 (moduleOf 65537 [] 0 0) gives 13
+    ∷ bodyCheck 96 (moduleOf 0 [] 0 0) gives 13
+    ∷ bodyCheck 96 (moduleOf 1 [] 0 0) gives 0
+    ∷ bodyCheck 96 (moduleOf 2 [] 0 0) gives 0
+    ∷ bodyCheck 96 (moduleOf 3 [] 0 0) gives 13
+    ∷ bodyCheck 96 (moduleOf 257 [] 0 0) gives 13
+    ∷ bodyCheck 96 (moduleOf 65537 [] 0 0) gives 13
     -- "framebuffer format 1 to 4, bpp 24 for formats 1 and 2 and 32 for 3 and 4"
-    ∷ bodyFault 32 (pixels 0 24) gives 13
-    ∷ bodyFault 32 (pixels 0 32) gives 13
-    ∷ bodyFault 32 (pixels 1 24) gives 0
-    ∷ bodyFault 32 (pixels 1 32) gives 13
-    ∷ bodyFault 32 (pixels 2 24) gives 0
-    ∷ bodyFault 32 (pixels 2 32) gives 13
-    ∷ bodyFault 32 (pixels 3 24) gives 13
-    ∷ bodyFault 32 (pixels 3 32) gives 0
-    ∷ bodyFault 32 (pixels 4 24) gives 13
-    ∷ bodyFault 32 (pixels 4 32) gives 0
-    ∷ bodyFault 32 (pixels 5 24) gives 13
-    ∷ bodyFault 32 (pixels 5 32) gives 13
-    ∷ bodyFault 32 (pixels 1 23) gives 13
-    ∷ bodyFault 32 (pixels 1 25) gives 13
-    ∷ bodyFault 32 (pixels 3 31) gives 13
-    ∷ bodyFault 32 (framebufferOf 1 1 8 33 3 0) gives 13
-    ∷ bodyFault 32 (framebufferOf 1 1 8192 280 1 0) gives 13
-    ∷ bodyFault 32 (framebufferOf 1 1 4 24 257 0) gives 13
+    ∷ bodyCheck 32 (pixels 0 24) gives 13
+    ∷ bodyCheck 32 (pixels 0 32) gives 13
+    ∷ bodyCheck 32 (pixels 1 24) gives 0
+    ∷ bodyCheck 32 (pixels 1 32) gives 13
+    ∷ bodyCheck 32 (pixels 2 24) gives 0
+    ∷ bodyCheck 32 (pixels 2 32) gives 13
+    ∷ bodyCheck 32 (pixels 3 24) gives 13
+    ∷ bodyCheck 32 (pixels 3 32) gives 0
+    ∷ bodyCheck 32 (pixels 4 24) gives 13
+    ∷ bodyCheck 32 (pixels 4 32) gives 0
+    ∷ bodyCheck 32 (pixels 5 24) gives 13
+    ∷ bodyCheck 32 (pixels 5 32) gives 13
+    ∷ bodyCheck 32 (pixels 1 23) gives 13
+    ∷ bodyCheck 32 (pixels 1 25) gives 13
+    ∷ bodyCheck 32 (pixels 3 31) gives 13
+    ∷ bodyCheck 32 (framebufferOf 1 1 8 33 3 0) gives 13
+    ∷ bodyCheck 32 (framebufferOf 1 1 8192 280 1 0) gives 13
+    ∷ bodyCheck 32 (framebufferOf 1 1 4 24 257 0) gives 13
     -- "pitch × 8 at least width × bpp": width, height, pitch, bpp, format, address
-    ∷ bodyFault 32 (framebufferOf 3 1 8 24 1 0) gives 13
-    ∷ bodyFault 32 (framebufferOf 3 1 9 24 1 0) gives 0
-    ∷ bodyFault 32 (framebufferOf 3 1 11 32 3 0) gives 13
-    ∷ bodyFault 32 (framebufferOf 3 1 12 32 3 0) gives 0
-    ∷ bodyFault 32 (framebufferOf 134217728 1 0 32 3 0) gives 13
-    ∷ bodyFault 32 (framebufferOf 0 1 0 32 3 0) gives 0
-    ∷ bodyFault 32 (framebufferOf 0 0 0 32 3 0) gives 0
-    ∷ bodyFault 32 (framebufferOf 1 1 536870912 32 3 0) gives 0
+    ∷ bodyCheck 32 (framebufferOf 3 1 8 24 1 0) gives 13
+    ∷ bodyCheck 32 (framebufferOf 3 1 9 24 1 0) gives 0
+    ∷ bodyCheck 32 (framebufferOf 3 1 11 32 3 0) gives 13
+    ∷ bodyCheck 32 (framebufferOf 3 1 12 32 3 0) gives 0
+    ∷ bodyCheck 32 (framebufferOf 134217728 1 0 32 3 0) gives 13
+    ∷ bodyCheck 32 (framebufferOf 0 1 0 32 3 0) gives 0
+    ∷ bodyCheck 32 (framebufferOf 0 0 0 32 3 0) gives 0
+    ∷ bodyCheck 32 (framebufferOf 1 1 536870912 32 3 0) gives 0
     -- "kernel bases, kernel size and module address multiples of 4,096"
-    ∷ bodyFault 336 (kernelAcross 2048 0 0) gives 13
-    ∷ bodyFault 336 (kernelAcross 4096 0 0) gives 0
-    ∷ bodyFault 336 (kernelAcross 4095 0 0) gives 13
-    ∷ bodyFault 336 (kernelAcross 4097 0 0) gives 13
-    ∷ bodyFault 336 (kernelAcross 0 2048 0) gives 13
-    ∷ bodyFault 336 (kernelAcross 0 4096 0) gives 0
-    ∷ bodyFault 336 (kernelAcross 0 4095 0) gives 13
-    ∷ bodyFault 336 (kernelAcross 0 4097 0) gives 13
-    ∷ bodyFault 336 (kernelAcross 0 0 2048) gives 13
-    ∷ bodyFault 336 (kernelAcross 0 0 4096) gives 0
-    ∷ bodyFault 336 (kernelAcross 0 0 4095) gives 13
-    ∷ bodyFault 336 (kernelAcross 0 0 4097) gives 13
-    ∷ bodyFault 96 (moduleOf 1 [] 2048 0) gives 13
-    ∷ bodyFault 96 (moduleOf 1 [] 4096 0) gives 0
-    ∷ bodyFault 96 (moduleOf 1 [] 4095 0) gives 13
-    ∷ bodyFault 96 (moduleOf 1 [] 4097 0) gives 13
+    ∷ bodyCheck 336 (kernelAcross 2048 0 0) gives 13
+    ∷ bodyCheck 336 (kernelAcross 4096 0 0) gives 0
+    ∷ bodyCheck 336 (kernelAcross 4095 0 0) gives 13
+    ∷ bodyCheck 336 (kernelAcross 4097 0 0) gives 13
+    ∷ bodyCheck 336 (kernelAcross 0 2048 0) gives 13
+    ∷ bodyCheck 336 (kernelAcross 0 4096 0) gives 0
+    ∷ bodyCheck 336 (kernelAcross 0 4095 0) gives 13
+    ∷ bodyCheck 336 (kernelAcross 0 4097 0) gives 13
+    ∷ bodyCheck 336 (kernelAcross 0 0 2048) gives 13
+    ∷ bodyCheck 336 (kernelAcross 0 0 4096) gives 0
+    ∷ bodyCheck 336 (kernelAcross 0 0 4095) gives 13
+    ∷ bodyCheck 336 (kernelAcross 0 0 4097) gives 13
+    ∷ bodyCheck 96 (moduleOf 1 [] 2048 0) gives 13
+    ∷ bodyCheck 96 (moduleOf 1 [] 4096 0) gives 0
+    ∷ bodyCheck 96 (moduleOf 1 [] 4095 0) gives 13
+    ∷ bodyCheck 96 (moduleOf 1 [] 4097 0) gives 13
     ∷ []
 
 -- ---- "texts"
 abbrev pub textCases : List Case
 textCases =
     -- "a zero byte within the field": a text is shorter than its field
-    bodyFault 56 (shortPlatform 1 (letters 31)) gives 0
-    ∷ bodyFault 56 (shortPlatform 1 (letters 32)) gives 14
-    ∷ bodyFault 336 (kernelFrom (slashAnd 254)) gives 0
-    ∷ bodyFault 336 (kernelFrom (slashAnd 255)) gives 14
-    ∷ bodyFault 96 (moduleOf 1 (letters 63) 0 0) gives 0
-    ∷ bodyFault 96 (moduleOf 1 (letters 64) 0 0) gives 14
-    ∷ bodyFault 16 (commandLine (letters 7)) gives 0
-    ∷ bodyFault 16 (commandLine (letters 8)) gives 14
-    ∷ bodyFault 24 (commandLine (letters 15)) gives 0
-    ∷ bodyFault 24 (commandLine (letters 16)) gives 14
+    bodyCheck 56 (shortPlatform 1 (letters 31)) gives 0
+    ∷ bodyCheck 56 (shortPlatform 1 (letters 32)) gives 14
+    ∷ bodyCheck 336 (kernelFrom (slashAnd 254)) gives 0
+    ∷ bodyCheck 336 (kernelFrom (slashAnd 255)) gives 14
+    ∷ bodyCheck 96 (moduleOf 1 (letters 63) 0 0) gives 0
+    ∷ bodyCheck 96 (moduleOf 1 (letters 64) 0 0) gives 14
+    ∷ bodyCheck 16 (commandLine (letters 7)) gives 0
+    ∷ bodyCheck 16 (commandLine (letters 8)) gives 14
+    ∷ bodyCheck 24 (commandLine (letters 15)) gives 0
+    ∷ bodyCheck 24 (commandLine (letters 16)) gives 14
     -- "before it, bytes 1 to 127 only"
-    ∷ bodyFault 56 (shortPlatform 1 (0 ∷ [])) gives 14
-    ∷ bodyFault 56 (shortPlatform 1 (1 ∷ 127 ∷ [])) gives 0
-    ∷ bodyFault 56 (shortPlatform 1 (1 ∷ 128 ∷ [])) gives 14
-    ∷ bodyFault 96 (moduleOf 1 (0 ∷ []) 0 0) gives 14
-    ∷ bodyFault 96 (moduleOf 1 (1 ∷ 127 ∷ []) 0 0) gives 0
-    ∷ bodyFault 96 (moduleOf 1 (1 ∷ 128 ∷ []) 0 0) gives 14
-    ∷ bodyFault 16 (commandLine (0 ∷ [])) gives 14
-    ∷ bodyFault 16 (commandLine (1 ∷ 127 ∷ [])) gives 0
-    ∷ bodyFault 16 (commandLine (1 ∷ 128 ∷ [])) gives 14
-    ∷ bodyFault 16 (commandLine (2 ∷ 9 ∷ 31 ∷ 32 ∷ [])) gives 0
+    ∷ bodyCheck 56 (shortPlatform 1 (0 ∷ [])) gives 14
+    ∷ bodyCheck 56 (shortPlatform 1 (1 ∷ 127 ∷ [])) gives 0
+    ∷ bodyCheck 56 (shortPlatform 1 (1 ∷ 128 ∷ [])) gives 14
+    ∷ bodyCheck 96 (moduleOf 1 (0 ∷ []) 0 0) gives 14
+    ∷ bodyCheck 96 (moduleOf 1 (1 ∷ 127 ∷ []) 0 0) gives 0
+    ∷ bodyCheck 96 (moduleOf 1 (1 ∷ 128 ∷ []) 0 0) gives 14
+    ∷ bodyCheck 16 (commandLine (0 ∷ [])) gives 14
+    ∷ bodyCheck 16 (commandLine (1 ∷ 127 ∷ [])) gives 0
+    ∷ bodyCheck 16 (commandLine (1 ∷ 128 ∷ [])) gives 14
+    ∷ bodyCheck 16 (commandLine (2 ∷ 9 ∷ 31 ∷ 32 ∷ [])) gives 0
     -- "except in the path, which begins with `/` and is otherwise free"
-    ∷ bodyFault 336 (kernelFrom []) gives 14
-    ∷ bodyFault 336 (kernelFrom (47 ∷ [])) gives 0
-    ∷ bodyFault 336 (kernelFrom (46 ∷ [])) gives 14
-    ∷ bodyFault 336 (kernelFrom (97 ∷ 47 ∷ [])) gives 14
-    ∷ bodyFault 336 (kernelFrom (47 ∷ 0 ∷ [])) gives 14
-    ∷ bodyFault 336 (kernelFrom (47 ∷ 1 ∷ 128 ∷ 255 ∷ [])) gives 0
+    ∷ bodyCheck 336 (kernelFrom []) gives 14
+    ∷ bodyCheck 336 (kernelFrom (47 ∷ [])) gives 0
+    ∷ bodyCheck 336 (kernelFrom (46 ∷ [])) gives 14
+    ∷ bodyCheck 336 (kernelFrom (97 ∷ 47 ∷ [])) gives 14
+    ∷ bodyCheck 336 (kernelFrom (47 ∷ 0 ∷ [])) gives 14
+    ∷ bodyCheck 336 (kernelFrom (47 ∷ 1 ∷ 128 ∷ 255 ∷ [])) gives 0
     ∷ []
 
 -- ---- "ranges": none above 2^64, which is 18,446,744,073,709,551,616
 abbrev pub rangeCases : List Case
 rangeCases =
-    bodyFault 336 (kernelAcross 18446744073709547520 0 4096) gives 0
-    ∷ bodyFault 336 (kernelAcross 18446744073709547520 0 8192) gives 15
-    ∷ bodyFault 336 (kernelAcross 0 18446744073709547520 4096) gives 0
-    ∷ bodyFault 336 (kernelAcross 0 18446744073709547520 8192) gives 15
-    ∷ bodyFault 32 (oneRange 18446744073709547520 4096 1) gives 0
-    ∷ bodyFault 32 (oneRange 18446744073709547520 4097 1) gives 15
-    ∷ bodyFault 56 (twoRanges (range 0 4096 1) (range 4096 18446744073709547520 1)) gives 0
-    ∷ bodyFault 56 (twoRanges (range 0 4096 1) (range 4096 18446744073709547521 1)) gives 15
-    ∷ bodyFault 96 (moduleOf 1 [] 18446744073709547520 4096) gives 0
-    ∷ bodyFault 96 (moduleOf 1 [] 18446744073709547520 4097) gives 15
+    bodyCheck 336 (kernelAcross 18446744073709547520 0 4096) gives 0
+    ∷ bodyCheck 336 (kernelAcross 18446744073709547520 0 8192) gives 15
+    ∷ bodyCheck 336 (kernelAcross 0 18446744073709547520 4096) gives 0
+    ∷ bodyCheck 336 (kernelAcross 0 18446744073709547520 8192) gives 15
+    ∷ bodyCheck 32 (oneRange 18446744073709547520 4096 1) gives 0
+    ∷ bodyCheck 32 (oneRange 18446744073709547520 4097 1) gives 15
+    ∷ bodyCheck 56 (twoRanges (range 0 4096 1) (range 4096 18446744073709547520 1)) gives 0
+    ∷ bodyCheck 56 (twoRanges (range 0 4096 1) (range 4096 18446744073709547521 1)) gives 15
+    ∷ bodyCheck 96 (moduleOf 1 [] 18446744073709547520 4096) gives 0
+    ∷ bodyCheck 96 (moduleOf 1 [] 18446744073709547520 4097) gives 15
     -- pitch × height is 4,096 × 2, then 4,294,967,295 × 4,294,967,295
-    ∷ bodyFault 32 (framebufferOf 1 2 4096 32 3 18446744073709543424) gives 0
-    ∷ bodyFault 32 (framebufferOf 1 2 4096 32 3 18446744073709543425) gives 15
-    ∷ bodyFault 32 (framebufferOf 1 4294967295 4294967295 32 3 8589934591) gives 0
-    ∷ bodyFault 32 (framebufferOf 1 4294967295 4294967295 32 3 8589934592) gives 15
+    ∷ bodyCheck 32 (framebufferOf 1 2 4096 32 3 18446744073709543424) gives 0
+    ∷ bodyCheck 32 (framebufferOf 1 2 4096 32 3 18446744073709543425) gives 15
+    ∷ bodyCheck 32 (framebufferOf 1 4294967295 4294967295 32 3 8589934591) gives 0
+    ∷ bodyCheck 32 (framebufferOf 1 4294967295 4294967295 32 3 8589934592) gives 15
     ∷ []
 
 -- ---- "map order: each entry's address is at least the sum of address and size of the one before. Size 0 is allowed."
 abbrev pub orderCases : List Case
 orderCases =
-    bodyFault 56 (twoRanges (range 0 4096 1) (range 4096 1 1)) gives 0
-    ∷ bodyFault 56 (twoRanges (range 0 4097 1) (range 4096 1 1)) gives 16
-    ∷ bodyFault 56 (twoRanges (range 0 8192 1) (range 4096 4096 1)) gives 16
-    ∷ bodyFault 56 (twoRanges (range 0 4096 1) (range 8192 1 1)) gives 0
-    ∷ bodyFault 56 (twoRanges (range 5 0 1) (range 5 0 1)) gives 0
-    ∷ bodyFault 56 (twoRanges (range 5 0 1) (range 4 1 1)) gives 16
-    ∷ bodyFault 56 (twoRanges (range 18446744073709547520 4096 1) (range 0 0 1)) gives 16
-    ∷ bodyFault 56 (twoRanges (range 18446744073709547520 4096 1) (range 18446744073709551615 0 1)) gives 16
-    ∷ bodyFault 80 (threeRanges (range 0 1 1) (range 1 1 1) (range 2 1 1)) gives 0
-    ∷ bodyFault 80 (threeRanges (range 0 1 1) (range 1 1 1) (range 1 1 1)) gives 16
+    bodyCheck 56 (twoRanges (range 0 4096 1) (range 4096 1 1)) gives 0
+    ∷ bodyCheck 56 (twoRanges (range 0 4097 1) (range 4096 1 1)) gives 16
+    ∷ bodyCheck 56 (twoRanges (range 0 8192 1) (range 4096 4096 1)) gives 16
+    ∷ bodyCheck 56 (twoRanges (range 0 4096 1) (range 8192 1 1)) gives 0
+    ∷ bodyCheck 56 (twoRanges (range 5 0 1) (range 5 0 1)) gives 0
+    ∷ bodyCheck 56 (twoRanges (range 5 0 1) (range 4 1 1)) gives 16
+    ∷ bodyCheck 56 (twoRanges (range 18446744073709547520 4096 1) (range 0 0 1)) gives 16
+    ∷ bodyCheck 56 (twoRanges (range 18446744073709547520 4096 1) (range 18446744073709551615 0 1)) gives 16
+    ∷ bodyCheck 80 (threeRanges (range 0 1 1) (range 1 1 1) (range 2 1 1)) gives 0
+    ∷ bodyCheck 80 (threeRanges (range 0 1 1) (range 1 1 1) (range 1 1 1)) gives 16
     ∷ []
 
 -- ---- two rules broken: the lower number; "within a map, all entries are tried for 13, then 15, then 16"
 abbrev pub bothCases : List Case
 bothCases =
     -- the size and a member
-    bodyFault 48 (shortPlatform 0 []) gives 12
-    ∷ bodyFault 328 (kernelWith 0 0 0 0 []) gives 12
-    ∷ bodyFault 40 (oneRange 0 0 0) gives 12
-    ∷ bodyFault 88 (moduleOf 0 [] 0 0) gives 12
-    ∷ bodyFault 8 (commandLine (128 ∷ [])) gives 12
-    ∷ bodyFault 24 (pixels 0 32) gives 12
+    bodyCheck 48 (shortPlatform 0 []) gives 12
+    ∷ bodyCheck 328 (kernelWith 0 0 0 0 []) gives 12
+    ∷ bodyCheck 40 (oneRange 0 0 0) gives 12
+    ∷ bodyCheck 88 (moduleOf 0 [] 0 0) gives 12
+    ∷ bodyCheck 8 (commandLine (128 ∷ [])) gives 12
+    ∷ bodyCheck 24 (pixels 0 32) gives 12
     -- a value and a text, a value and a range
-    ∷ bodyFault 56 (shortPlatform 0 (128 ∷ [])) gives 13
-    ∷ bodyFault 336 (kernelWith 0 0 0 0 []) gives 13
-    ∷ bodyFault 96 (moduleOf 0 (128 ∷ []) 0 0) gives 13
-    ∷ bodyFault 32 (framebufferOf 1 1 4 32 0 18446744073709551615) gives 13
+    ∷ bodyCheck 56 (shortPlatform 0 (128 ∷ [])) gives 13
+    ∷ bodyCheck 336 (kernelWith 0 0 0 0 []) gives 13
+    ∷ bodyCheck 96 (moduleOf 0 (128 ∷ []) 0 0) gives 13
+    ∷ bodyCheck 32 (framebufferOf 1 1 4 32 0 18446744073709551615) gives 13
     -- a text and a range
-    ∷ bodyFault 336 (kernelWith 18446744073709547520 0 8192 1 []) gives 14
-    ∷ bodyFault 96 (moduleOf 1 (128 ∷ []) 4096 18446744073709551615) gives 14
+    ∷ bodyCheck 336 (kernelWith 18446744073709547520 0 8192 1 []) gives 14
+    ∷ bodyCheck 96 (moduleOf 1 (128 ∷ []) 4096 18446744073709551615) gives 14
     -- in a map
-    ∷ bodyFault 56 (twoRanges (range 18446744073709547520 4097 1) (range 0 0 0)) gives 13
-    ∷ bodyFault 56 (twoRanges (range 0 4097 1) (range 4096 1 0)) gives 13
-    ∷ bodyFault 56 (twoRanges (range 0 4097 1) (range 4096 18446744073709551615 1)) gives 15
+    ∷ bodyCheck 56 (twoRanges (range 18446744073709547520 4097 1) (range 0 0 0)) gives 13
+    ∷ bodyCheck 56 (twoRanges (range 0 4097 1) (range 4096 1 0)) gives 13
+    ∷ bodyCheck 56 (twoRanges (range 0 4097 1) (range 4096 18446744073709551615 1)) gives 15
     ∷ []
 
 -- ---- which type may stand where
@@ -359,30 +359,30 @@ placeCases =
     ∷ repeatable 8 is true
     ∷ repeatable 4294967295 is true
     -- the types before, the nearest first, and a type
-    ∷ placeFault [] 1 gives 0
-    ∷ placeFault [] 2 gives 9
-    ∷ placeFault (1 ∷ []) 2 gives 0
-    ∷ placeFault (1 ∷ []) 3 gives 9
-    ∷ placeFault (2 ∷ 1 ∷ []) 1 gives 9
-    ∷ placeFault (2 ∷ 1 ∷ []) 2 gives 9
-    ∷ placeFault (2 ∷ 1 ∷ []) 6 gives 0
-    ∷ placeFault (3 ∷ 2 ∷ 1 ∷ []) 3 gives 10
-    ∷ placeFault (5 ∷ 2 ∷ 1 ∷ []) 5 gives 10
-    ∷ placeFault (7 ∷ 6 ∷ 2 ∷ 1 ∷ []) 6 gives 10
-    ∷ placeFault (4 ∷ 2 ∷ 1 ∷ []) 4 gives 0
-    ∷ placeFault (3 ∷ 4 ∷ 2 ∷ 1 ∷ []) 4 gives 11
-    ∷ placeFault (7 ∷ 2 ∷ 1 ∷ []) 7 gives 0
-    ∷ placeFault (7 ∷ 7 ∷ 2 ∷ 1 ∷ []) 8 gives 0
-    ∷ placeFault (8 ∷ 7 ∷ 2 ∷ 1 ∷ []) 7 gives 11
+    ∷ placeCheck [] 1 gives 0
+    ∷ placeCheck [] 2 gives 9
+    ∷ placeCheck (1 ∷ []) 2 gives 0
+    ∷ placeCheck (1 ∷ []) 3 gives 9
+    ∷ placeCheck (2 ∷ 1 ∷ []) 1 gives 9
+    ∷ placeCheck (2 ∷ 1 ∷ []) 2 gives 9
+    ∷ placeCheck (2 ∷ 1 ∷ []) 6 gives 0
+    ∷ placeCheck (3 ∷ 2 ∷ 1 ∷ []) 3 gives 10
+    ∷ placeCheck (5 ∷ 2 ∷ 1 ∷ []) 5 gives 10
+    ∷ placeCheck (7 ∷ 6 ∷ 2 ∷ 1 ∷ []) 6 gives 10
+    ∷ placeCheck (4 ∷ 2 ∷ 1 ∷ []) 4 gives 0
+    ∷ placeCheck (3 ∷ 4 ∷ 2 ∷ 1 ∷ []) 4 gives 11
+    ∷ placeCheck (7 ∷ 2 ∷ 1 ∷ []) 7 gives 0
+    ∷ placeCheck (7 ∷ 7 ∷ 2 ∷ 1 ∷ []) 8 gives 0
+    ∷ placeCheck (8 ∷ 7 ∷ 2 ∷ 1 ∷ []) 7 gives 11
     ∷ []
 
 -- ---- what is given to be added
 -- a map as bytes, and a kernel with these GUIDs
-abbrev pub mapFault : List ℕ → ℕ
-mapFault bytes = givenFault (mapFormed bytes) (mapOf bytes)
+abbrev pub mapCheck : List ℕ → ℕ
+mapCheck bytes = givenCheck (mapFormed bytes) (mapOf bytes)
 
-abbrev pub guidsFault : List ℕ → List ℕ → ℕ
-guidsFault disk partition = givenFault (guidsFormed disk partition) (kernelOf 0 0 0 1 disk partition 0 0 (47 ∷ []))
+abbrev pub guidsCheck : List ℕ → List ℕ → ℕ
+guidsCheck disk partition = givenCheck (guidsFormed disk partition) (kernelOf 0 0 0 1 disk partition 0 0 (47 ∷ []))
 
 -- the 24 bytes of an entry, but for the last
 abbrev pub mostOfEntry : List ℕ
@@ -391,26 +391,26 @@ mostOfEntry = zeros 16 ++ (1 ∷ zeros 6)
 abbrev pub givenCases : List Case
 givenCases =
     -- "12 is given if their count is no multiple of three"
-    additionFault (addMap []) gives 0
-    ∷ additionFault (addMap (0 ∷ [])) gives 12
-    ∷ additionFault (addMap (0 ∷ 0 ∷ [])) gives 12
-    ∷ additionFault (addMap (0 ∷ 0 ∷ 1 ∷ [])) gives 0
-    ∷ additionFault (addMap (0 ∷ 0 ∷ 1 ∷ 0 ∷ [])) gives 12
-    ∷ additionFault (addMap (0 ∷ 0 ∷ 0 ∷ 0 ∷ [])) gives 12
+    additionCheck (addMap []) gives 0
+    ∷ additionCheck (addMap (0 ∷ [])) gives 12
+    ∷ additionCheck (addMap (0 ∷ 0 ∷ [])) gives 12
+    ∷ additionCheck (addMap (0 ∷ 0 ∷ 1 ∷ [])) gives 0
+    ∷ additionCheck (addMap (0 ∷ 0 ∷ 1 ∷ 0 ∷ [])) gives 12
+    ∷ additionCheck (addMap (0 ∷ 0 ∷ 0 ∷ 0 ∷ [])) gives 12
     -- "12 for a map not of 24n bytes or a GUID not of 16"
-    ∷ mapFault [] gives 0
-    ∷ mapFault (zeros 8) gives 12
-    ∷ mapFault (zeros 12) gives 12
-    ∷ mapFault (zeros 16) gives 12
-    ∷ mapFault mostOfEntry gives 12
-    ∷ mapFault (mostOfEntry ++ zeros 1) gives 0
-    ∷ mapFault (mostOfEntry ++ zeros 2) gives 12
-    ∷ mapFault (mostOfEntry ++ zeros 9) gives 12
-    ∷ guidsFault (zeros 16) (zeros 16) gives 0
-    ∷ guidsFault (zeros 15) (zeros 16) gives 12
-    ∷ guidsFault (zeros 17) (zeros 16) gives 12
-    ∷ guidsFault (zeros 16) (zeros 15) gives 12
-    ∷ guidsFault (zeros 16) (zeros 17) gives 12
+    ∷ mapCheck [] gives 0
+    ∷ mapCheck (zeros 8) gives 12
+    ∷ mapCheck (zeros 12) gives 12
+    ∷ mapCheck (zeros 16) gives 12
+    ∷ mapCheck mostOfEntry gives 12
+    ∷ mapCheck (mostOfEntry ++ zeros 1) gives 0
+    ∷ mapCheck (mostOfEntry ++ zeros 2) gives 12
+    ∷ mapCheck (mostOfEntry ++ zeros 9) gives 12
+    ∷ guidsCheck (zeros 16) (zeros 16) gives 0
+    ∷ guidsCheck (zeros 15) (zeros 16) gives 12
+    ∷ guidsCheck (zeros 17) (zeros 16) gives 12
+    ∷ guidsCheck (zeros 16) (zeros 15) gives 12
+    ∷ guidsCheck (zeros 16) (zeros 17) gives 12
     ∷ []
 
 -- ---- "Numbers a call can give back"

@@ -1,12 +1,13 @@
 -- The rules on one attribute: its size suits the table, and its members' values, texts, ranges and order. Each is a test on the
 -- attribute's size and members alone, so that reading and adding share it.
 -- Assumes nothing.
-use Prim.Native.Nat.{ℕ, _+_, _-_, _*_, _%_}
+use Prim.Native.Nat.{ℕ, _+_, _-_, _*_}
 use mathlib.Core.Bool.{Bool, true, false, not, _&&_, _||_}
 use mathlib.Core.List.{List, [], _∷_}
 use lib.ListN.{length, getD}
 use lib.Dec.{leb, ltb, eqb}
-use Rattle.ultra_format.specs.Refusals.{unless, FORM, VALUE, TEXT, RANGE, ORDER}
+use Rattle.address_ranges.specs.Ranges.{pageAligned, rangeFits}
+use Rattle.refusals.specs.Refusals.{unless, FORM, VALUE, TEXT, RANGE, ORDER}
 use Rattle.ultra_format.specs.Contexts.{Member, Entry, Body}
 use Rattle.ultra_format.specs.Contexts.{Member.present, Member.absent, Body.platform, Body.kernel, Body.memoryMap, Body.moduleInfo, Body.commandLine, Body.framebuffer, Body.other}
 
@@ -38,9 +39,6 @@ sizeSuits s (other t) = true
 -- multiples of 4,096"
 abbrev pub nonzero : ℕ → Bool
 nonzero n = not (eqb n 0)
-
-abbrev pub pageAligned : ℕ → Bool
-pageAligned n = eqb (n % 4096) 0
 
 abbrev pub entryTyped : Entry → Bool
 entryTyped e = nonzero (e .entryType)
@@ -88,9 +86,6 @@ texts s (other t) = true
 
 -- ---- "ranges: kernel physical base + size, kernel virtual base + size, each entry's and each module's address + size, and
 -- framebuffer address + pitch × height, none above 2^64"
-abbrev pub rangeFits : ℕ → ℕ → Bool
-rangeFits address size = leb (address + size) 18446744073709551616
-
 abbrev pub entryFits : Entry → Bool
 entryFits e = rangeFits (e .address) (e .size)
 
@@ -122,8 +117,8 @@ ordered (framebuffer f) = true
 ordered (other t) = true
 
 -- ---- the first of 12 to 16 that fails, or 0: the size, the values, the texts, the ranges, the order
-abbrev pub memberFault : Bool → Bool → Bool → Bool → Bool → ℕ
-memberFault form value text range order =
+abbrev pub memberCheck : Bool → Bool → Bool → Bool → Bool → ℕ
+memberCheck form value text range order =
     unless form FORM
     (unless value VALUE
     (unless text TEXT
@@ -132,5 +127,5 @@ memberFault form value text range order =
     0))))
 
 -- of a body of an attribute of `s` bytes
-unfoldable pub bodyFault : ℕ → Body → ℕ
-bodyFault s x = memberFault (sizeSuits s x) (values x) (texts s x) (ranges x) (ordered x)
+unfoldable pub bodyCheck : ℕ → Body → ℕ
+bodyCheck s x = memberCheck (sizeSuits s x) (values x) (texts s x) (ranges x) (ordered x)

@@ -5,7 +5,7 @@ use mathlib.Core.Bool.{Bool, false, not, _&&_, _||_}
 use mathlib.Core.List.{List, [], _∷_}
 use lib.ListN.{length}
 use lib.Dec.{leb, eqb}
-use Rattle.ultra_format.specs.Refusals.{unless, PLACE, REPEAT, SPLIT}
+use Rattle.refusals.specs.Refusals.{unless, PLACE, REPEAT, SPLIT}
 
 -- "first is not 1, second not 2, or a later one is 1 or 2"
 unfoldable pub placed : ℕ → ℕ → Bool
@@ -30,9 +30,9 @@ abbrev pub nearest : List ℕ → ℕ
 nearest [] = 0
 nearest (u ∷ us) = u
 
--- the first of 9 to 11 that an attribute of type `t` behind those of the types `before` breaks, or 0
-unfoldable pub placeFault : List ℕ → ℕ → ℕ
-placeFault before t =
+-- the first of 9 to 11 that an attribute of type `t` after those of the types `before` breaks, or 0
+unfoldable pub placeCheck : List ℕ → ℕ → ℕ
+placeCheck before t =
     unless (placed (length before) t) PLACE
     (unless (not (single t && occurs t before)) REPEAT
     (unless (not (repeatable t && occurs t before && not (eqb (nearest before) t))) SPLIT

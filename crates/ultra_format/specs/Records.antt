@@ -24,7 +24,7 @@ abbrev pub optionalU8 : Member → OptionalU8
 optionalU8 (present n) = narrow.Present n
 optionalU8 absent = narrow.Absent
 
--- `padded` puts the zeros behind a text
+-- `padded` puts the zeros after a text
 abbrev pub platformRecord : Platform → PlatformRecord
 platformRecord p =
     record {
@@ -121,7 +121,7 @@ abbrev pub memberOfU8 : OptionalU8 → Member
 memberOfU8 (narrow.Present n) = present n
 memberOfU8 narrow.Absent = absent
 
--- a byte and what is kept of those behind it: a zero before nothing is a trailing one
+-- a byte and what is kept of those after it: a zero before nothing is a trailing one
 abbrev pub unlessTrailing : ℕ → List ℕ → List ℕ
 unlessTrailing zero [] = []
 unlessTrailing zero (x ∷ l) = 0 ∷ x ∷ l

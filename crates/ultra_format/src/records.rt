@@ -1,4 +1,4 @@
-// The records of document 01's table, by value: what a question hands back and what an add is given. A text has zeros behind it up to the
+// The records of document 01's table, by value: what a question hands back and what an add is given. A text has zeros after it up to the
 // end of its array; one given otherwise is refused as 14.
 
 // A platform member "from higher half base on": "An absent one is marked absent, not zero."

@@ -6,13 +6,13 @@ use Rattle.byte_layout.specs.Stored.{bytesAt, textAt}
 use Rattle.key_value_text.specs.Lines.{valueBytes, lineBytes}
 use Rattle.key_value_text.specs.Spelling.{each, digits, hexDigit, isEscaped, spelled}
 use Rattle.ultra_format.specs.Contexts.{total}
-use Rattle.ultra_format.specs.Members.{every, sizeSuits, values, kernelValues, moduleValues, bppSuits, framebufferValues, texts, asciiText, pathText, ranges, ordered, entriesOrdered, bodyFault}
-use Rattle.ultra_format.specs.Places.{placed, occurs, placeFault}
+use Rattle.ultra_format.specs.Members.{every, sizeSuits, values, kernelValues, moduleValues, bppSuits, framebufferValues, texts, asciiText, pathText, ranges, ordered, entriesOrdered, bodyCheck}
+use Rattle.ultra_format.specs.Places.{placed, occurs, placeCheck}
 use Rattle.ultra_format.specs.Decoding.{entriesAt, decoded, start, attributesFrom, contextOf, typesBefore}
-use Rattle.ultra_reading.specs.Reading.{headFault, boundsFault, attributeFault, attributesAnswer, usedLength}
+use Rattle.ultra_reading.specs.Reading.{headCheck, boundsCheck, attributeCheck, attributesAnswer, usedLength}
 use Rattle.ultra_listing.specs.Listing.{rangeLines, bodyLines, attributesLines, contextLines, linesOf, listed}
 use Rattle.ultra_listing.specs.Examples.{Examples}
 
 pub examples : Examples
-unfolding numberAt bytesAt textAt valueBytes lineBytes each digits hexDigit isEscaped spelled total every sizeSuits values kernelValues moduleValues bppSuits framebufferValues texts asciiText pathText ranges ordered entriesOrdered bodyFault placed occurs placeFault entriesAt decoded start attributesFrom contextOf typesBefore headFault boundsFault attributeFault attributesAnswer usedLength rangeLines bodyLines attributesLines contextLines linesOf listed
+unfolding numberAt bytesAt textAt valueBytes lineBytes each digits hexDigit isEscaped spelled total every sizeSuits values kernelValues moduleValues bppSuits framebufferValues texts asciiText pathText ranges ordered entriesOrdered bodyCheck placed occurs placeCheck entriesAt decoded start attributesFrom contextOf typesBefore headCheck boundsCheck attributeCheck attributesAnswer usedLength rangeLines bodyLines attributesLines contextLines linesOf listed
 examples = record { listed = refl; everyType = refl; short = refl; refused = refl; fits = refl; roomy = refl; tooShort = refl; escapes = refl; zero = refl; nine = refl; ten = refl; largest = refl }

@@ -11,12 +11,12 @@ use borrow.Author.Tests.{leb-true, le-leb, lt-leb}
 use Rattle.byte_layout.specs.Stored.{over}
 use Rattle.key_value_text.specs.Output.{puts}
 use Rattle.key_value_text.proofs.Lengths.{text-place, text-over}
-use Rattle.ultra_format.specs.Refusals.{ROOM}
-use Rattle.ultra_format.specs.Answers.{refusal, refused}
+use Rattle.refusals.specs.Refusals.{ROOM}
+use Rattle.refusals.specs.Answers.{refusal, refused}
 use Rattle.ultra_format.specs.Decoding.{pick}
-use Rattle.ultra_format.specs.declared.Refusal.{Refusal}
-use Rattle.ultra_format.specs.declared.Answer.{Answer}
-use Rattle.ultra_format.specs.declared.Answer.the-variants.{Done, Refused}
+use Rattle.refusals.specs.declared.Refusal.{Refusal}
+use Rattle.refusals.specs.declared.Answer.{Answer}
+use Rattle.refusals.specs.declared.Answer.the-variants.{Done, Refused}
 use Rattle.ultra_listing.specs.Listing.{listing, listed}
 use Rattle.ultra_listing.proofs.Bounds.{listing-fits}
 

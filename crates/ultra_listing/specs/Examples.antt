@@ -8,9 +8,9 @@ use lib.ListN.{replicate}
 use Rattle.key_value_text.specs.Spelling.{ascii, each, decimal, spelled}
 use Rattle.ultra_format.specs.Examples.{listedBytes, everyTypeBytes}
 use Rattle.ultra_reading.specs.Cases.{head}
-use Rattle.ultra_format.specs.Answers.{refused}
-use Rattle.ultra_format.specs.declared.Answer.{Answer}
-use Rattle.ultra_format.specs.declared.Answer.the-variants.{Done}
+use Rattle.refusals.specs.Answers.{refused}
+use Rattle.refusals.specs.declared.Answer.{Answer}
+use Rattle.refusals.specs.declared.Answer.the-variants.{Done}
 use Rattle.ultra_listing.specs.Listing.{listing, listed}
 
 -- "The whole listing of a context with four attributes"

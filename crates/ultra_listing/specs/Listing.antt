@@ -13,11 +13,11 @@ use Rattle.key_value_text.specs.Lines.{Value.numbers, Value.text, Value.hex, Va
 use Rattle.ultra_format.specs.Contexts.{Member, Platform, Kernel, Entry, Module, Framebuffer, Body, Attribute, Context, count, used}
 use Rattle.ultra_format.specs.Contexts.{Member.present, Member.absent, Body.platform, Body.kernel, Body.memoryMap, Body.moduleInfo, Body.commandLine, Body.framebuffer, Body.other}
 use Rattle.ultra_format.specs.Decoding.{pick, contextOf}
-use Rattle.ultra_format.specs.Refusals.{ROOM}
-use Rattle.ultra_format.specs.Answers.{refused}
-use Rattle.ultra_format.specs.declared.Refusal.{Refusal}
-use Rattle.ultra_format.specs.declared.Answer.{Answer}
-use Rattle.ultra_format.specs.declared.Answer.the-variants.{Done, Refused}
+use Rattle.refusals.specs.Refusals.{ROOM}
+use Rattle.refusals.specs.Answers.{refused}
+use Rattle.refusals.specs.declared.Refusal.{Refusal}
+use Rattle.refusals.specs.declared.Answer.{Answer}
+use Rattle.refusals.specs.declared.Answer.the-variants.{Done, Refused}
 use Rattle.ultra_reading.specs.Reading.{usedLength}
 
 -- ---- lines of each form

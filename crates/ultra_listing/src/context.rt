@@ -8,7 +8,7 @@ ghost use Rattle.ultra_questions.specs.Passing.{Accepts};
 ghost use Rattle.ultra_listing.specs.Listing.{contextLines, refusedLines};
 use crate::numbers::one;
 use crate::numbers::two;
-use ultra_format::Refusal;
+use refusals::Refusal;
 
 pub fn refused(out: &mut [u8], refusal: Refusal) -> u32
     ensures { λ r. ⌜ (now (out .exit), r) ≡ puts (now (out .entry), 0) (linesBytes (refusedLines refusal)) ⌝ }

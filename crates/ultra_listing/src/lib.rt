@@ -12,8 +12,8 @@ ghost use mathlib.Core.Path.{_≡_};
 ghost use lib.ListN.{length};
 ghost use Rattle.key_value_text.specs.Output.{puts};
 ghost use Rattle.ultra_listing.specs.Listing.{listing, listed};
-use ultra_format::Answer;
-use ultra_format::Refusal;
+use refusals::Answer;
+use refusals::Refusal;
 
 // Puts the listing from the front of `out` on, as far as it goes, and answers how long it is.
 fn write(out: &mut [u8], buf: &[u8]) -> u32
@@ -39,7 +39,7 @@ pub fn list(buf: &[u8], out: &mut [u8]) -> Answer
     ensures { λ r. ⌜ (r, now (out .exit)) ≡ listed (now (buf .entry)) (now (out .entry)) ⌝ }
 {
     if out.len() < listing_length(buf) as usize {
-        return Answer::Refused(Refusal::new(ultra_format::ROOM, 0));
+        return Answer::Refused(Refusal::new(refusals::ROOM, 0));
     }
     Answer::Done(write(out, buf))
 }

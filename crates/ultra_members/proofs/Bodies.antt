@@ -9,7 +9,8 @@ use native.Mathlib.Omega.{arith}
 use lib.Dec.{leb}
 use borrow.Author.Tests.{eq-eqb, ne-eqb}
 use Rattle.ultra_format.specs.Contexts.{Kernel, Body, Body.platform, Body.kernel, Body.memoryMap}
-use Rattle.ultra_format.specs.Members.{presentIf, sizeSuits, values, texts, rangeFits, ranges, ordered, bodyFault}
+use Rattle.address_ranges.specs.Ranges.{rangeFits}
+use Rattle.ultra_format.specs.Members.{presentIf, sizeSuits, values, texts, ranges, ordered, bodyCheck}
 use Rattle.ultra_format.specs.Decoding.{memberWhen, platformAt, entriesAt, decoded}
 use Rattle.ultra_format.proofs.Numbers.{length-entries}
 
@@ -48,10 +49,10 @@ module _ (k : Kernel) where
 
 -- the answer for a body is the answer for the bytes that decode to it
 module _ (b : List ℕ) (o s : ℕ) where
-  pub of-type : {t k : ℕ} {x : Body} → t ≡ k → decoded b o s k ≡ x → bodyFault s x ≡ bodyFault s (decoded b o s t)
+  pub of-type : {t k : ℕ} {x : Body} → t ≡ k → decoded b o s k ≡ x → bodyCheck s x ≡ bodyCheck s (decoded b o s t)
   of-type e d = rw (e, d)
 
   pub of-other : (t : ℕ) → (t ≡ 1 → ⊥) → (t ≡ 2 → ⊥) → (t ≡ 3 → ⊥) → (t ≡ 4 → ⊥) → (t ≡ 5 → ⊥) → (t ≡ 6 → ⊥)
-      → 0 ≡ bodyFault s (decoded b o s t)
-  unfolding decoded bodyFault sizeSuits values texts ranges ordered
+      → 0 ≡ bodyCheck s (decoded b o s t)
+  unfolding decoded bodyCheck sizeSuits values texts ranges ordered
   of-other t m₁ m₂ m₃ m₄ m₅ m₆ = simp (ne-eqb t 1 m₁, ne-eqb t 2 m₂, ne-eqb t 3 m₃, ne-eqb t 4 m₄, ne-eqb t 5 m₅, ne-eqb t 6 m₆)

@@ -11,7 +11,7 @@ use borrow.Author.Tests.{lt-ltb, le-ltb, ne-eqb}
 use Rattle.byte_layout.specs.Stored.{upToZero, textAt}
 use Rattle.byte_layout.proofs.Texts.{rest-stop, rest-next}
 use Rattle.ultra_format.specs.Members.{every, nonzero, asciiText, pathText}
-use Rattle.ultra_members.proofs.Comparisons.{leb-same}
+use Rattle.words.proofs.Comparisons.{leb-same}
 
 -- ---- a text of bytes 1 to 127 that closes within k bytes
 pub ascii-closed : (k : ℕ) → 0 < k → asciiText k [] ≡ true

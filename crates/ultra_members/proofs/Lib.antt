@@ -1,6 +1,6 @@
 pub mod Bodies
 pub mod Chains
-pub mod Comparisons
+pub mod Zero
 pub mod Entries
 pub mod Letters
 pub mod Products

@@ -10,9 +10,9 @@ use Rattle.words.specs.Words.{u64At}
 use Rattle.byte_layout.specs.Stored.{Bytes}
 use Rattle.byte_layout.proofs.FieldLaws.{number-fits}
 use Rattle.ultra_format.specs.Contexts.{Body.memoryMap}
-use Rattle.ultra_format.specs.Members.{every, entryTyped, entryFits, entriesOrdered, values, texts, ranges, ordered, bodyFault}
+use Rattle.ultra_format.specs.Members.{every, entryTyped, entryFits, entriesOrdered, values, texts, ranges, ordered, bodyCheck}
 use Rattle.ultra_format.specs.Decoding.{entryAt, entriesAt}
-use Rattle.ultra_format.proofs.Chains.{both-hold}
+use Rattle.refusals.proofs.Chains.{both-hold}
 use Rattle.ultra_members.specs.Sound.{sound}
 use Rattle.ultra_members.proofs.Bodies.{entries-suit}
 use Rattle.ultra_members.proofs.Chains.{pass}
@@ -91,6 +91,6 @@ module _ (b : List ℕ) (y : Bytes b) where
       go false e = e
       go true e = absurd (let z : true ≡ false = sym (holds o n t f e) ∙ s in let y : _≡_ {A = ℕ} 0 1 = cc in omega arith)
 
-  pub sound-passes : (o n : ℕ) → sound (entriesAt b o n) ≡ true → 0 ≡ bodyFault (8 + 24 * n) (memoryMap (entriesAt b o n))
+  pub sound-passes : (o n : ℕ) → sound (entriesAt b o n) ≡ true → 0 ≡ bodyCheck (8 + 24 * n) (memoryMap (entriesAt b o n))
   unfolding values texts ranges ordered
   sound-passes o n e = let h = all-hold o n e in pass _ _ (entries-suit b o n) (h .0) refl (h .1) (h .2)

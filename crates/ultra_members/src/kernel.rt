@@ -2,31 +2,31 @@ ghost use mathlib.Core.Path.{_≡_};
 ghost use Prim.Native.Nat.{_+_, _≤_};
 ghost use lib.ListN.{length};
 ghost use Rattle.ultra_format.specs.Contexts.{Body};
-ghost use Rattle.ultra_format.specs.Members.{bodyFault};
+ghost use Rattle.ultra_format.specs.Members.{bodyCheck};
 ghost use Rattle.ultra_format.specs.Decoding.{kernelAt};
 
-pub fn fault(bytes: &[u8], at: usize, size: u32) -> u32
+pub fn check(bytes: &[u8], at: usize, size: u32) -> u16
     requires { ⌜ at + size ≤ length (now bytes) ⌝ }
-    ensures { λ r. ⌜ r ≡ bodyFault size (Body.kernel (kernelAt (now (bytes .entry)) at)) ⌝ }
+    ensures { λ r. ⌜ r ≡ bodyCheck size (Body.kernel (kernelAt (now (bytes .entry)) at)) ⌝ }
 {
     if size < 336 {
-        return ultra_format::FORM;
+        return refusals::FORM;
     }
     let phys = words::load_u64(bytes, at + 8);
     let virt = words::load_u64(bytes, at + 16);
     let length = words::load_u64(bytes, at + 24);
     let partition = words::load_u64(bytes, at + 32);
     if !crate::values::kernel(phys, virt, length, partition) {
-        return ultra_format::VALUE;
+        return refusals::VALUE;
     }
     if !crate::texts::path(bytes, at + 80, 256) {
-        return ultra_format::TEXT;
+        return refusals::TEXT;
     }
-    if !crate::ranges::fits(phys, length) {
-        return ultra_format::RANGE;
+    if !address_ranges::fits(phys, length) {
+        return refusals::RANGE;
     }
-    if !crate::ranges::fits(virt, length) {
-        return ultra_format::RANGE;
+    if !address_ranges::fits(virt, length) {
+        return refusals::RANGE;
     }
     0
 }

@@ -3,7 +3,7 @@ ghost use mathlib.Core.Path.{_≡_};
 ghost use Prim.Native.Nat.{_+_, _-_, _*_, _/_, _≤_};
 ghost use lib.ListN.{length};
 ghost use Rattle.ultra_format.specs.Contexts.{Body};
-ghost use Rattle.ultra_format.specs.Members.{bodyFault, every, entryTyped, entryFits};
+ghost use Rattle.ultra_format.specs.Members.{bodyCheck, every, entryTyped, entryFits};
 ghost use Rattle.ultra_format.specs.Decoding.{entryAt, entriesAt};
 ghost use Rattle.ultra_members.specs.Sound.{sound};
 
@@ -38,7 +38,7 @@ fn all_fit(bytes: &[u8], at: usize, count: usize) -> bool
     let mut entry = at;
     let mut left = count;
     while 0 < left {
-        if !crate::ranges::fits(
+        if !address_ranges::fits(
             words::load_u64(bytes, entry),
             words::load_u64(bytes, entry + 8),
         ) {
@@ -63,7 +63,7 @@ fn all_sound(bytes: &[u8], at: usize, count: usize) -> bool
         }
         let address = words::load_u64(bytes, entry);
         let size = words::load_u64(bytes, entry + 8);
-        if !crate::ranges::ends_by(address, size, words::load_u64(bytes, entry + 24)) {
+        if !address_ranges::ends_by(address, size, words::load_u64(bytes, entry + 24)) {
             return false;
         }
         entry += 24;
@@ -75,7 +75,7 @@ fn all_sound(bytes: &[u8], at: usize, count: usize) -> bool
     if !typed(bytes, entry) {
         return false;
     }
-    crate::ranges::fits(
+    address_ranges::fits(
         words::load_u64(bytes, entry),
         words::load_u64(bytes, entry + 8),
     )
@@ -83,28 +83,28 @@ fn all_sound(bytes: &[u8], at: usize, count: usize) -> bool
 
 // The first of 13, 15 and 16 that the entries break, or 0: their number suits the size that they are written with. A map that breaks none
 // is gone over once; where one is broken, and neither 13 nor 15, it is 16.
-pub fn entries_fault(bytes: &[u8], at: usize, count: usize) -> u32
+pub fn entries_check(bytes: &[u8], at: usize, count: usize) -> u16
     requires { ⌜ at + 24 * count ≤ length (now bytes) ⌝ }
-    ensures { λ r. ⌜ r ≡ bodyFault (8 + 24 * count) (Body.memoryMap (entriesAt (now (bytes .entry)) at count)) ⌝ }
+    ensures { λ r. ⌜ r ≡ bodyCheck (8 + 24 * count) (Body.memoryMap (entriesAt (now (bytes .entry)) at count)) ⌝ }
 {
     if all_sound(bytes, at, count) {
         return 0;
     }
     if !all_typed(bytes, at, count) {
-        return ultra_format::VALUE;
+        return refusals::VALUE;
     }
     if !all_fit(bytes, at, count) {
-        return ultra_format::RANGE;
+        return refusals::RANGE;
     }
-    ultra_format::ORDER
+    refusals::ORDER
 }
 
-pub fn fault(bytes: &[u8], at: usize, size: u32) -> u32
+pub fn check(bytes: &[u8], at: usize, size: u32) -> u16
     requires { ⌜ (at + size ≤ length (now bytes)) × (8 ≤ size) ⌝ }
-    ensures { λ r. ⌜ r ≡ bodyFault size (Body.memoryMap (entriesAt (now (bytes .entry)) (at + 8) ((size - 8) / 24))) ⌝ }
+    ensures { λ r. ⌜ r ≡ bodyCheck size (Body.memoryMap (entriesAt (now (bytes .entry)) (at + 8) ((size - 8) / 24))) ⌝ }
 {
     if (size - 8) % 24 != 0 {
-        return ultra_format::FORM;
+        return refusals::FORM;
     }
-    entries_fault(bytes, at + 8, ((size - 8) / 24) as usize)
+    entries_check(bytes, at + 8, ((size - 8) / 24) as usize)
 }

@@ -1,12 +1,6 @@
 // Rules on numbers: refusal 13.
 ghost use mathlib.Core.Path.{_≡_};
-ghost use Rattle.ultra_format.specs.Members.{pageAligned, kernelValues, moduleValues, bppSuits, framebufferValues};
-
-pub fn page_aligned(number: u64) -> bool
-    ensures { λ r. ⌜ r ≡ pageAligned number ⌝ }
-{
-    number % 4096 == 0
-}
+ghost use Rattle.ultra_format.specs.Members.{kernelValues, moduleValues, bppSuits, framebufferValues};
 
 pub fn kernel(phys: u64, virt: u64, size: u64, partition: u64) -> bool
     ensures { λ r. ⌜ r ≡ kernelValues phys virt size partition ⌝ }
@@ -14,23 +8,23 @@ pub fn kernel(phys: u64, virt: u64, size: u64, partition: u64) -> bool
     if partition == 0 {
         return false;
     }
-    if !page_aligned(phys) {
+    if !address_ranges::page_aligned(phys) {
         return false;
     }
-    if !page_aligned(virt) {
+    if !address_ranges::page_aligned(virt) {
         return false;
     }
-    page_aligned(size)
+    address_ranges::page_aligned(size)
 }
 
 pub fn module(kind: u32, address: u64) -> bool
     ensures { λ r. ⌜ r ≡ moduleValues kind address ⌝ }
 {
     if kind == 1 {
-        return page_aligned(address);
+        return address_ranges::page_aligned(address);
     }
     if kind == 2 {
-        return page_aligned(address);
+        return address_ranges::page_aligned(address);
     }
     false
 }

@@ -8,14 +8,14 @@ use native.Mathlib.Omega.{arith}
 use lib.ListN.{length}
 use lib.Dec.{ltb}
 use borrow.Author.Tests.{ltb-true, lt-ltb, le-ltb}
-use Rattle.ultra_format.specs.Refusals.{COUNT}
-use Rattle.ultra_format.specs.Answers.{refused}
+use Rattle.refusals.specs.Refusals.{COUNT}
+use Rattle.refusals.specs.Answers.{refused}
 use Rattle.ultra_format.specs.Contexts.{count, attributeAt, startIn, used}
 use Rattle.ultra_format.specs.Decoding.{pick, decoded, start, storedType, storedSize, storedCount, storedAttribute, contextOf}
 use Rattle.ultra_format.specs.Records.{recordsOf}
-use Rattle.ultra_format.specs.declared.Refusal.{Refusal}
-use Rattle.ultra_format.specs.declared.Answer.{Answer}
-use Rattle.ultra_format.specs.declared.Answer.the-variants.{Done, Refused}
+use Rattle.refusals.specs.declared.Refusal.{Refusal}
+use Rattle.refusals.specs.declared.Answer.{Answer}
+use Rattle.refusals.specs.declared.Answer.the-variants.{Done, Refused}
 use Rattle.ultra_format.specs.declared.records.Records.{Records}
 use Rattle.ultra_format.proofs.Bodies.{decoded-type}
 use Rattle.ultra_format.proofs.Decoded.{count-decoded, start-decoded, at-decoded}

@@ -16,7 +16,8 @@ use Rattle.ultra_format.specs.Decoding.{decoded, entriesAt}
 use Rattle.ultra_format.proofs.Bodies.{by-type}
 use Rattle.ultra_format.proofs.Sizes.{map-size}
 use Rattle.ultra_questions.specs.Parts.{part, noPart, bodyPart}
-use Rattle.ultra_questions.specs.ModuleQuestion.{covers, holding}
+use Rattle.address_ranges.specs.Ranges.{covers}
+use Rattle.ultra_questions.specs.ModuleQuestion.{holding}
 
 module _ (b : List ℕ) (o s t : ℕ) where
   pub map-part : t ≡ 3 → sizeSuits s (decoded b o s t) ≡ true → part (o + 8) (s - 8) ≡ bodyPart o (decoded b o s t)

@@ -12,10 +12,10 @@ use Rattle.byte_layout.specs.Stored.{bytesAt}
 use Rattle.ultra_format.specs.Contexts.{Attribute, Context, used}
 use Rattle.ultra_format.specs.Layouts.{roomOf}
 use Rattle.ultra_format.specs.Decoding.{start, contextOf}
-use Rattle.ultra_format.specs.declared.Answer.the-variants.{Done}
+use Rattle.refusals.specs.declared.Answer.the-variants.{Done}
 use Rattle.ultra_format.proofs.Decoded.{count-decoded, start-decoded, at-decoded, decoded-only}
 use Rattle.ultra_reading.specs.Reading.{usedLength}
-use Rattle.ultra_acceptance.specs.Acceptance.{HeldBy}
+use Rattle.ultra_acceptance.specs.Acceptance.{HoldsContext}
 use Rattle.ultra_acceptance.proofs.Acceptance.{complete}
 use Rattle.ultra_questions.specs.Parts.{PartOf, LiesAt, bodyPart, partBytes}
 use Rattle.ultra_questions.specs.AttributeQuestion.{attributeStart, attributeAnswer}
@@ -27,7 +27,7 @@ use Rattle.ultra_questions.specs.ByContext.{ByContext, QuestionsByContex
 use Rattle.ultra_questions.proofs.Searches.{found-at, none-at}
 use Rattle.ultra_questions.proofs.PartCells.{part-bytes, slice-bytes}
 
-module _ (b : List ℕ) (h : HeldBy 2 b (contextOf b)) where
+module _ (b : List ℕ) (h : HoldsContext 2 b (contextOf b)) where
   -- the part of what is found has its bytes
   found-text : (t : Bool) → eqb (foundStart (firstIn (ofType 5) (contextOf b))) 0 ≡ t
       → let p = commandLineIn (contextOf b) in bytesAt b (p .start) (p .length) ≡ textIn (contextOf b)
@@ -44,7 +44,7 @@ module _ (b : List ℕ) (h : HeldBy 2 b (contextOf b)) where
   line-text : let p = commandLineIn (contextOf b) in bytesAt b (p .start) (p .length) ≡ textIn (contextOf b)
   line-text = found-text (eqb (foundStart (firstIn (ofType 5) (contextOf b))) 0) refl
 
-module _ (b : List ℕ) (c : Context) (h : HeldBy 2 b (contextOf b)) (e : usedLength 2 b ≡ Done (used c)) (q : contextOf b ≡ c) where
+module _ (b : List ℕ) (c : Context) (h : HoldsContext 2 b (contextOf b)) (e : usedLength 2 b ≡ Done (used c)) (q : contextOf b ≡ c) where
   line-is : commandLinePart b ≡ commandLineIn c
   unfolding commandLinePart
   line-is = rw (e, q)
@@ -73,4 +73,4 @@ module _ (b : List ℕ) (c : Context) (h : HeldBy 2 b (contextOf b)) (e : usedLe
 pub questions-by-context : QuestionsByContext
 questions-by-context b c h =
     let q = decoded-only 2 (roomOf b) b c (h .0) (h .1) in
-    by-context b c (subst (HeldBy 2 b) q h) (complete 2 b c (h .0) (h .1)) (sym q)
+    by-context b c (subst (HoldsContext 2 b) q h) (complete 2 b c (h .0) (h .1)) (sym q)

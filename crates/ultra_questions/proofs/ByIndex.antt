@@ -18,13 +18,14 @@ use Rattle.ultra_format.specs.Contexts.{Entry, Module, Body, typeOf, Context, c
 use Rattle.ultra_format.specs.Contexts.{Body.platform, Body.kernel, Body.memoryMap, Body.moduleInfo, Body.commandLine, Body.framebuffer, Body.other}
 use Rattle.ultra_format.specs.Layouts.{entriesFields, roomOf}
 use Rattle.ultra_format.specs.Rules.{Meets}
-use Rattle.ultra_format.specs.declared.Answer.the-variants.{Done}
-use Rattle.ultra_format.proofs.Chains.{both-hold}
+use Rattle.refusals.specs.declared.Answer.the-variants.{Done}
+use Rattle.refusals.proofs.Chains.{both-hold}
 use Rattle.ultra_questions.specs.Parts.{part, noPart, bodyPart, partBytes}
 use Rattle.ultra_questions.specs.Searching.{firstIn, foundStart}
 use Rattle.ultra_questions.specs.MapQuestion.{numbers, mapIn, mapCopiedBytes}
 use Rattle.ultra_questions.specs.CommandLineQuestion.{commandLineIn, textIn}
-use Rattle.ultra_questions.specs.ModuleQuestion.{covers, holding, moduleIn}
+use Rattle.address_ranges.specs.Ranges.{covers}
+use Rattle.ultra_questions.specs.ModuleQuestion.{holding, moduleIn}
 use Rattle.ultra_questions.specs.ByIndex.{Holds, HoldsAt, NoneHolds, FirstHolds, ModuleStart, QuestionsByIndex}
 use Rattle.ultra_questions.proofs.FirstByIndex.{Outcome, outcome, found-type, found-none}
 use Rattle.ultra_questions.proofs.MapBytes.{over-numbers}

@@ -12,19 +12,19 @@ use borrow.Author.Tests.{leb-true, leb-false, ltb-true, eqb-true, eqb-false}
 use denote.Ref.{RefT}
 use Rattle.byte_layout.specs.Stored.{over}
 use Rattle.words.specs.Words.{numbersIn}
-use Rattle.ultra_format.specs.Refusals.{COUNT, ROOM, ABSENT}
-use Rattle.ultra_format.specs.Answers.{refusal, refused}
+use Rattle.refusals.specs.Refusals.{COUNT, ROOM, ABSENT}
+use Rattle.refusals.specs.Answers.{refusal, refused}
 use Rattle.ultra_format.specs.Contexts.{Entry, Body, typeOf, Context, count, attributeAt, bodyAt, typeAt, startIn, used}
 use Rattle.ultra_format.specs.Contexts.{Body.platform, Body.kernel, Body.memoryMap, Body.moduleInfo, Body.commandLine, Body.framebuffer, Body.other}
 use Rattle.ultra_format.specs.Layouts.{roomOf}
 use Rattle.ultra_format.specs.Rules.{TypeSuits, Meets}
 use Rattle.ultra_format.specs.Decoding.{pick}
-use Rattle.ultra_format.specs.declared.Refusal.{Refusal}
-use Rattle.ultra_format.specs.declared.Answer.{Answer}
-use Rattle.ultra_format.specs.declared.Answer.the-variants.{Done, Refused}
+use Rattle.refusals.specs.declared.Refusal.{Refusal}
+use Rattle.refusals.specs.declared.Answer.{Answer}
+use Rattle.refusals.specs.declared.Answer.the-variants.{Done, Refused}
 use Rattle.ultra_reading.specs.Reading.{usedLength, withVersion, versionOf, readingOf}
 use Rattle.ultra_reading.specs.declared.Reading.the-variants as reading
-use Rattle.ultra_acceptance.specs.Acceptance.{HeldBy}
+use Rattle.ultra_acceptance.specs.Acceptance.{HoldsContext}
 use Rattle.ultra_acceptance.proofs.Acceptance.{accepts-exactly}
 use Rattle.ultra_questions.specs.declared.part.Part.{Part}
 use Rattle.ultra_questions.specs.declared.attributes.AttributeAnswer.{AttributeAnswer}
@@ -52,7 +52,7 @@ same-refusal e = cc
 module _ (b : List ℕ) (y : (i : ℕ) → getD b i 0 < 256) where
   -- a buffer is refused or holds a list
   abbrev Either : Type 0
-  Either = ((r : Refusal) × (usedLength 2 b ≡ Refused r)) ⊎ ((c : Context) × HeldBy 2 b c)
+  Either = ((r : Refusal) × (usedLength 2 b ≡ Refused r)) ⊎ ((c : Context) × HoldsContext 2 b c)
 
   either : Either
   either = go (usedLength 2 b) refl
@@ -75,7 +75,7 @@ module _ (b : List ℕ) (y : (i : ℕ) → getD b i 0 < 256) where
       go (Refused s) k q = let w : s ≡ r = cc in k ∙ ap Refused w
 
   -- a question that passes reading's refusal on and else has its own
-  module _ (x : Answer) (r : Refusal) (own : Context → Type 0) (passed : (s : Refusal) → usedLength 2 b ≡ Refused s → x ≡ Refused s) (asked : (c : Context) → HeldBy 2 b c → (x ≡ Refused r) ↔ own c) where
+  module _ (x : Answer) (r : Refusal) (own : Context → Type 0) (passed : (s : Refusal) → usedLength 2 b ≡ Refused s → x ≡ Refused s) (asked : (c : Context) → HoldsContext 2 b c → (x ≡ Refused r) ↔ own c) where
     why : Either → x ≡ Refused r → RefusedBy b r own
     why (inl (s, e)) q = inl (read-refused s e ∙ ap reading.Refused (same-refusal (sym (passed s e) ∙ q)))
     why (inr (c, h)) q = inr (c, h, asked c h .0 q)
@@ -88,7 +88,7 @@ module _ (b : List ℕ) (y : (i : ℕ) → getD b i 0 < 256) where
     refuses = (why either, because)
 
   -- a success is not what was passed on
-  held : (x : Answer) (n : ℕ) → ((s : Refusal) → usedLength 2 b ≡ Refused s → x ≡ Refused s) → x ≡ Done n → Either → (c : Context) × HeldBy 2 b c
+  held : (x : Answer) (n : ℕ) → ((s : Refusal) → usedLength 2 b ≡ Refused s → x ≡ Refused s) → x ≡ Done n → Either → (c : Context) × HoldsContext 2 b c
   held x n passed e (inl (s, q)) = absurd (done-refused n s (sym e ∙ passed s q))
   held x n passed e (inr h) = h
 
@@ -140,12 +140,12 @@ module _ (refuse : QuestionsRefuseExactly) (pass : RefusalsPassOn) (byContext : 
   kept out r q (inl (s, e)) = ap (λ (z : Answer × List ℕ). z .1) (pass b s e .maps out)
   kept out r q (inr (c, h)) = refuse b c h .kept out r q
 
-  starts : (i o : ℕ) → attributeStart b i ≡ Done o → (c : Context) × HeldBy 2 b c
-      → (c : Context) × HeldBy 2 b c × (i < count c) × (o ≡ startIn (c .attributes) i) × (attributeAnswer b i ≡ answered o (attributeAt c i))
+  starts : (i o : ℕ) → attributeStart b i ≡ Done o → (c : Context) × HoldsContext 2 b c
+      → (c : Context) × HoldsContext 2 b c × (i < count c) × (o ≡ startIn (c .attributes) i) × (attributeAnswer b i ≡ answered o (attributeAt c i))
   starts i o e (c, h) = go (ltb i (count c)) refl (sym (byContext b c h .starts i) ∙ e)
     where
       go : (t : Bool) → ltb i (count c) ≡ t → pick t (Done (startIn (c .attributes) i)) (refused COUNT (used c)) ≡ Done o
-          → (c : Context) × HeldBy 2 b c × (i < count c) × (o ≡ startIn (c .attributes) i) × (attributeAnswer b i ≡ answered o (attributeAt c i))
+          → (c : Context) × HoldsContext 2 b c × (i < count c) × (o ≡ startIn (c .attributes) i) × (attributeAnswer b i ≡ answered o (attributeAt c i))
       go true q k = (
         c,
         h,
@@ -161,7 +161,7 @@ module _ (refuse : QuestionsRefuseExactly) (pass : RefusalsPassOn) (byContext : 
       let w = byContext b c h .attributes i ∙ ap (withMembers (attributeAt c i)) (sym (byContext b c h .starts i) ∙ e) in
       slice-empty lent s (attributeAnswer (s .now) i .part) (ap (λ (l : List ℕ). attributeAnswer l i .part) k ∙ ap (λ (a : AttributeAnswer). a .part) w) p
 
-  copied : (out : List ℕ) (n : ℕ) → mapCopied b out .0 ≡ Done n → (c : Context) × HeldBy 2 b c
+  copied : (out : List ℕ) (n : ℕ) → mapCopied b out .0 ≡ Done n → (c : Context) × HoldsContext 2 b c
       → (es : List Entry) × MapHeld b es × (n ≡ length es) × (mapCopied b out .1 ≡ over (numbers es) out)
   copied out n e (c, h) =
       let k = its-map (roomOf b) c (h .0) (mapCopied b out .0) (length out) n (refuse b c h .map out) e in
@@ -169,7 +169,7 @@ module _ (refuse : QuestionsRefuseExactly) (pass : RefusalsPassOn) (byContext : 
       let w = byIndex b c h .map (k .1) (k .0) out (k .2) (k .3) f in
       (k .0, (c, h, k .1, k .2, k .3), count-said (mapCopied b out) (length (k .0)) n _ w e, ap (λ (z : Answer × List ℕ). z .1) w)
 
-  bytes-copied : (out : List ℕ) (n : ℕ) → ((i : ℕ) → getD out i 0 < 256) → mapCopiedBytes b out .0 ≡ Done n → (c : Context) × HeldBy 2 b c
+  bytes-copied : (out : List ℕ) (n : ℕ) → ((i : ℕ) → getD out i 0 < 256) → mapCopiedBytes b out .0 ≡ Done n → (c : Context) × HoldsContext 2 b c
       → (es : List Entry) × MapHeld b es × (n ≡ length es) × (mapCopiedBytes b out .1 ≡ over (partBytes (memoryMap es)) out)
   bytes-copied out n z e (c, h) =
       let k = its-map (roomOf b) c (h .0) (mapCopiedBytes b out .0) (length out / 8) n (refuse b c h .mapBytes out) e in
@@ -182,7 +182,7 @@ module _ (refuse : QuestionsRefuseExactly) (pass : RefusalsPassOn) (byContext : 
   module-refused a r (inr (c, h)) q = absurd (refuse b c h .modules a r q)
 
   module _ (lent s : RefT (List ℕ)) (e : s .now ≡ b) (p : LineHandedBack lent s) where
-    line-of : (c : Context) → HeldBy 2 b c → Outcome (ofType 5) 8 (c .attributes) (firstIn (ofType 5) c) → ((lent .now ≡ []) × NoLine b) ⊎ LineHeld b lent s
+    line-of : (c : Context) → HoldsContext 2 b c → Outcome (ofType 5) 8 (c .attributes) (firstIn (ofType 5) c) → ((lent .now ≡ []) × NoLine b) ⊎ LineHeld b lent s
     line-of c h (inl r) =
         let n : (i : ℕ) → i < count c → typeAt c i ≡ 5 → ⊥ = λ i k. eqb-false (typeAt c i) 5 (r .1 i k) in
         inl (byContext b c h .slice lent s e p .2 ∙ byIndex b c h .noLine n .1, inr (c, h, n))

@@ -46,7 +46,7 @@ pub body-at : (b : List ℕ) (i o s t : ℕ) → o ≡ start b i → s ≡ store
 body-at b i o s t e f g = rw (e, f, g)
 
 -- no attribute starts in the head
-pub behind-head : (b : List ℕ) (i : ℕ) → 8 ≤ start b i
+pub after-head : (b : List ℕ) (i : ℕ) → 8 ≤ start b i
 unfolding start
-behind-head b zero = omega arith
-behind-head b (suc i) = let h = behind-head b i in omega arith
+after-head b zero = omega arith
+after-head b (suc i) = let h = after-head b i in omega arith

@@ -6,9 +6,9 @@ use mathlib.Core.List.{List}
 use native.Mathlib.Omega.{arith}
 use lib.ListN.{length}
 use Rattle.byte_layout.specs.Stored.{Bytes, bytesAt, over}
-use Rattle.ultra_format.specs.declared.Refusal.{Refusal}
-use Rattle.ultra_format.specs.declared.Answer.{Answer}
-use Rattle.ultra_format.specs.declared.Answer.the-variants.{Done, Refused}
+use Rattle.refusals.specs.declared.Refusal.{Refusal}
+use Rattle.refusals.specs.declared.Answer.{Answer}
+use Rattle.refusals.specs.declared.Answer.the-variants.{Done, Refused}
 use Rattle.ultra_questions.specs.MapQuestion.{mapCopiedBytes, mapPlace, entriesStored}
 use Rattle.ultra_questions.specs.MapAsBytes.{MapAsBytes, CopiesBytes}
 use Rattle.ultra_questions.proofs.MapLaws.{place-said}

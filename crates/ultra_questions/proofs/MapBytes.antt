@@ -11,12 +11,12 @@ use Rattle.words.proofs.Numbers.{length-numbers, numbers-bytes}
 use Rattle.words.proofs.NumberBytes.{length-numbers-bytes, front-bytes}
 use Rattle.byte_layout.specs.Stored.{Bytes, bytesAt, over}
 use Rattle.byte_layout.proofs.Copies.{bytes-taken}
-use Rattle.ultra_format.specs.declared.Refusal.{Refusal}
-use Rattle.ultra_format.specs.declared.Answer.the-variants.{Done, Refused}
+use Rattle.refusals.specs.declared.Refusal.{Refusal}
+use Rattle.refusals.specs.declared.Answer.the-variants.{Done, Refused}
 use Rattle.ultra_questions.specs.MapQuestion.{overBytes, mapCopiedBytes, mapPlace, entriesStored}
 use Rattle.ultra_questions.proofs.MapLaws.{MapAt, place-refused}
 
--- with what is behind it there already
+-- with what is after it there already
 over-again : (x out : List ℕ) (m : ℕ) → length x + m ≤ length out → over (x ++ take m (drop (length x) out)) out ≡ over x out
 over-again x out m h =
     let l : length (take m (drop (length x) out)) ≡ m = length-take-le m (drop (length x) out) (omega (arith, length-drop (length x) out)) in

@@ -11,13 +11,13 @@ use lib.Dec.{leb}
 use borrow.Author.Tests.{leb-true, le-leb, lt-leb}
 use Rattle.words.specs.Words.{u32At, u64At, numbersAt}
 use Rattle.byte_layout.specs.Stored.{over}
-use Rattle.ultra_format.specs.Refusals.{ROOM, ABSENT}
-use Rattle.ultra_format.specs.Answers.{refused}
+use Rattle.refusals.specs.Refusals.{ROOM, ABSENT}
+use Rattle.refusals.specs.Answers.{refused}
 use Rattle.ultra_format.specs.Contexts.{Attribute, used}
 use Rattle.ultra_format.specs.Decoding.{pick, entriesAt, decoded, start, storedType, storedCount, storedAttribute, contextOf}
-use Rattle.ultra_format.specs.declared.Refusal.{Refusal}
-use Rattle.ultra_format.specs.declared.Answer.{Answer}
-use Rattle.ultra_format.specs.declared.Answer.the-variants.{Done, Refused}
+use Rattle.refusals.specs.declared.Refusal.{Refusal}
+use Rattle.refusals.specs.declared.Answer.{Answer}
+use Rattle.refusals.specs.declared.Answer.the-variants.{Done, Refused}
 use Rattle.ultra_format.proofs.Numbers.{length-entries}
 use Rattle.ultra_reading.specs.Reading.{usedLength}
 use Rattle.ultra_questions.specs.Passing.{ifAccepted}

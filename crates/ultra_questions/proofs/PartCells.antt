@@ -22,7 +22,7 @@ use Rattle.ultra_format.specs.Layouts.{bodyFields, entriesFields, attributeFiel
 use Rattle.ultra_format.specs.Members.{texts, asciiText, every, ascii}
 use Rattle.ultra_format.specs.Rules.{Meets}
 use Rattle.ultra_format.proofs.Bodies.{width-entries}
-use Rattle.ultra_format.proofs.Chains.{both-hold}
+use Rattle.refusals.proofs.Chains.{both-hold}
 use Rattle.ultra_format.proofs.Attributes.{at, Sized, sized}
 use Rattle.ultra_questions.specs.declared.part.Part.{Part}
 use Rattle.ultra_questions.specs.Parts.{noPart, PartOf, bodyPart, partBytes}

@@ -12,17 +12,17 @@ use borrow.Author.Tests.{leb-false, lt-leb, ltb-false, le-ltb, eqb-true, eqb-fal
 use Rattle.byte_layout.specs.Stored.{over}
 use Rattle.words.specs.Words.{numbersIn}
 use Rattle.words.proofs.Numbers.{length-numbers}
-use Rattle.ultra_format.specs.Refusals.{COUNT, ROOM, ABSENT}
-use Rattle.ultra_format.specs.Answers.{refused, numberOf, valueOf}
+use Rattle.refusals.specs.Refusals.{COUNT, ROOM, ABSENT}
+use Rattle.refusals.specs.Answers.{refused, numberOf, valueOf}
 use Rattle.ultra_format.specs.Contexts.{Entry, Body, typeOf, Context, count, attributeAt, bodyAt, typeAt, startIn, used}
 use Rattle.ultra_format.specs.Contexts.{Body.platform, Body.kernel, Body.memoryMap, Body.moduleInfo, Body.commandLine, Body.framebuffer, Body.other}
 use Rattle.ultra_format.specs.Layouts.{roomOf}
 use Rattle.ultra_format.specs.Rules.{TypeSuits, Meets}
 use Rattle.ultra_format.specs.Decoding.{pick, contextOf}
-use Rattle.ultra_format.specs.declared.Refusal.{Refusal}
-use Rattle.ultra_format.specs.declared.Answer.{Answer}
-use Rattle.ultra_format.specs.declared.Answer.the-variants.{Done, Refused}
-use Rattle.ultra_acceptance.specs.Acceptance.{HeldBy}
+use Rattle.refusals.specs.declared.Refusal.{Refusal}
+use Rattle.refusals.specs.declared.Answer.{Answer}
+use Rattle.refusals.specs.declared.Answer.the-variants.{Done, Refused}
+use Rattle.ultra_acceptance.specs.Acceptance.{HoldsContext}
 use Rattle.ultra_questions.specs.declared.attributes.AttributeAnswer.{AttributeAnswer}
 use Rattle.ultra_questions.specs.Searching.{firstIn, ofType}
 use Rattle.ultra_questions.specs.AttributeQuestion.{unanswered, startOrCount, withMembers, attributeStart, attributeAnswer}
@@ -126,7 +126,7 @@ module _ (room : ℕ) (c : Context) (m : Meets 2 room c) (out : List ℕ) where
   refuses r (e, inr (k, s)) = short (outcome (ofType 3) 8 (c .attributes)) s ∙ refusal-is r ROOM (used c) k e
 
 -- ---- the statements
-module _ (b : List ℕ) (c : Context) (h : HeldBy 2 b c) where
+module _ (b : List ℕ) (c : Context) (h : HoldsContext 2 b c) where
   start-refuses : (i : ℕ) (r : Refusal) → (attributeStart b i ≡ Refused r) ↔ IndexRefused c i r
   start-refuses i r = rw (questions-by-context b c h .starts i) (past-in c i r)
 

@@ -12,7 +12,7 @@ use Rattle.ultra_format.specs.Contexts.{Body, typeOf}
 use Rattle.ultra_format.specs.Decoding.{pick, start, storedType, storedSize, storedCount, storedAttribute, attributesFrom, contextOf}
 use Rattle.ultra_format.proofs.Bodies.{decoded-type}
 use Rattle.ultra_questions.specs.Searching.{Found, Found.none, Found.found, first, firstIn, foundStart, ofType}
-use Rattle.ultra_questions.proofs.Located.{behind-head}
+use Rattle.ultra_questions.proofs.Located.{after-head}
 
 module _ (test : Body → Bool) (b : List ℕ) where
   -- the search among n attributes from attribute i on
@@ -46,7 +46,7 @@ module _ (test : Body → Bool) (b : List ℕ) where
   widened : (n m : ℕ) {f : Found} → n ≡ m → FoundAt n f → FoundAt m f
   widened n m e k = record { index = k .index; below = omega (arith, k .below); is = k .is; meets = k .meets }
 
-  -- attribute i, or what is found behind it
+  -- attribute i, or what is found after it
   chosen : (i m : ℕ) (rest : Found) → i < m → (t : Bool) → test (storedAttribute b i .body) ≡ t → ((foundStart rest ≡ 0 → ⊥) → FoundAt m rest)
       → (foundStart (pick t (found (start b i) (storedAttribute b i)) rest) ≡ 0 → ⊥) → FoundAt m (pick t (found (start b i) (storedAttribute b i)) rest)
   chosen i m rest h true e r k = record { index = i; below = h; is = refl; meets = e }
@@ -64,7 +64,7 @@ module _ (test : Body → Bool) (b : List ℕ) where
 
   unchosen : (i : ℕ) (rest : Found) (t : Bool) → (foundStart rest ≡ 0 → rest ≡ none) → foundStart (pick t (found (start b i) (storedAttribute b i)) rest) ≡ 0
       → pick t (found (start b i) (storedAttribute b i)) rest ≡ none
-  unchosen i rest true r e = absurd (omega (arith, behind-head b i, e))
+  unchosen i rest true r e = absurd (omega (arith, after-head b i, e))
   unchosen i rest false r e = r e
 
   none-among : (i n : ℕ) → foundStart (searched i n) ≡ 0 → searched i n ≡ none

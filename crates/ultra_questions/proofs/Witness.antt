@@ -6,15 +6,15 @@ use mathlib.Core.List.{List, _∷_}
 use mathlib.Core.Logic.{_⊎_.inr}
 use native.Mathlib.Omega.{arith}
 use lib.ListN.{length}
-use Rattle.ultra_format.specs.Answers.{refusal, refused}
+use Rattle.refusals.specs.Answers.{refusal, refused}
 use Rattle.ultra_format.specs.Contexts.{total}
 use Rattle.ultra_format.specs.Examples.{everyMap, everyType, everyTypeBytes}
-use Rattle.ultra_format.specs.declared.Answer.{Answer}
+use Rattle.refusals.specs.declared.Answer.{Answer}
 use Rattle.ultra_format.proofs.Witness.{every-type-meets, every-type-opens}
-use Rattle.ultra_acceptance.specs.Acceptance.{HeldBy}
+use Rattle.ultra_acceptance.specs.Acceptance.{HoldsContext}
 use Rattle.ultra_questions.specs.Searching.{first}
 use Rattle.ultra_questions.specs.MapQuestion.{numbers, mapCopied, mapCopiedBytes}
-use Rattle.ultra_questions.specs.ModuleQuestion.{covers}
+use Rattle.address_ranges.specs.Ranges.{covers}
 use Rattle.ultra_questions.specs.ByContext.{ByContext}
 use Rattle.ultra_questions.specs.ByIndex.{ByIndex}
 use Rattle.ultra_questions.specs.QuestionRefusals.{QuestionsRefuse}
@@ -23,7 +23,7 @@ use Rattle.ultra_questions.proofs.ByContext.{questions-by-context}
 use Rattle.ultra_questions.proofs.ByIndex.{questions-by-index}
 use Rattle.ultra_questions.proofs.QuestionRefusals.{questions-refuse}
 
-holds : HeldBy 2 everyTypeBytes everyType
+holds : HoldsContext 2 everyTypeBytes everyType
 holds = (every-type-meets, every-type-opens)
 
 answers : ByContext everyTypeBytes everyType

@@ -7,7 +7,7 @@ use mathlib.Core.List.{List}
 use denote.Ref.{RefT}
 use Rattle.byte_layout.specs.Stored.{bytesAt}
 use Rattle.ultra_format.specs.Contexts.{Context, attributeAt}
-use Rattle.ultra_acceptance.specs.Acceptance.{HeldBy}
+use Rattle.ultra_acceptance.specs.Acceptance.{HoldsContext}
 use Rattle.ultra_questions.specs.Parts.{PartOf, LiesAt}
 use Rattle.ultra_questions.specs.AttributeQuestion.{startOrCount, withMembers, attributeStart, attributeAnswer}
 use Rattle.ultra_questions.specs.MapQuestion.{mapIn, mapCopied}
@@ -27,4 +27,4 @@ pub record ByContext (b : List ℕ) (c : Context) : Type 0 where
   pub modules : (a : ℕ) → moduleHolding b a ≡ moduleIn c a
 
 abbrev pub QuestionsByContext : Type 0
-QuestionsByContext = (b : List ℕ) (c : Context) → HeldBy 2 b c → ByContext b c
+QuestionsByContext = (b : List ℕ) (c : Context) → HoldsContext 2 b c → ByContext b c

@@ -9,8 +9,8 @@ use mathlib.Core.List.{List, []}
 use lib.ListN.{length}
 use Rattle.byte_layout.specs.Stored.{Bytes, over}
 use Rattle.ultra_format.specs.Contexts.{Entry, Module, Body.memoryMap, Body.moduleInfo, Body.commandLine, Context, count, bodyAt, typeAt, startIn}
-use Rattle.ultra_format.specs.declared.Answer.the-variants.{Done}
-use Rattle.ultra_acceptance.specs.Acceptance.{HeldBy}
+use Rattle.refusals.specs.declared.Answer.the-variants.{Done}
+use Rattle.ultra_acceptance.specs.Acceptance.{HoldsContext}
 use Rattle.ultra_questions.specs.Parts.{part, noPart, partBytes}
 use Rattle.ultra_questions.specs.MapQuestion.{numbers, mapCopied, mapCopiedBytes}
 use Rattle.ultra_questions.specs.CommandLineQuestion.{textIn, commandLinePart}
@@ -51,4 +51,4 @@ pub record ByIndex (b : List ℕ) (c : Context) : Type 0 where
   pub noLine : ((i : ℕ) → i < count c → typeAt c i ≡ 5 → ⊥) → (commandLinePart b ≡ noPart) × (textIn c ≡ [])
 
 abbrev pub QuestionsByIndex : Type 0
-QuestionsByIndex = (b : List ℕ) (c : Context) → HeldBy 2 b c → ByIndex b c
+QuestionsByIndex = (b : List ℕ) (c : Context) → HoldsContext 2 b c → ByIndex b c

@@ -7,13 +7,13 @@ use lib.ListN.{length}
 use lib.Dec.{leb}
 use Rattle.words.specs.Words.{u32At, numbersIn, numbersBytes}
 use Rattle.byte_layout.specs.Stored.{over}
-use Rattle.ultra_format.specs.Refusals.{ROOM, ABSENT}
-use Rattle.ultra_format.specs.Answers.{refused}
+use Rattle.refusals.specs.Refusals.{ROOM, ABSENT}
+use Rattle.refusals.specs.Answers.{refused}
 use Rattle.ultra_format.specs.Contexts.{Entry, Body, Context, used}
 use Rattle.ultra_format.specs.Contexts.{Body.platform, Body.kernel, Body.memoryMap, Body.moduleInfo, Body.commandLine, Body.framebuffer, Body.other}
 use Rattle.ultra_format.specs.Decoding.{pick, contextOf}
-use Rattle.ultra_format.specs.declared.Answer.{Answer}
-use Rattle.ultra_format.specs.declared.Answer.the-variants.{Done}
+use Rattle.refusals.specs.declared.Answer.{Answer}
+use Rattle.refusals.specs.declared.Answer.the-variants.{Done}
 use Rattle.ultra_reading.specs.Reading.{usedLength}
 use Rattle.ultra_questions.specs.Passing.{ifAccepted}
 use Rattle.ultra_questions.specs.Searching.{Found, Found.none, Found.found, firstIn, ofType}

@@ -1,21 +1,17 @@
 -- "Which module holds an address: the attribute start of the first module with address ≤ a < address + size, or 0."
 -- Assumes nothing.
-use Prim.Native.Nat.{ℕ, _+_}
-use mathlib.Core.Bool.{Bool, false, _&&_}
+use Prim.Native.Nat.{ℕ}
+use mathlib.Core.Bool.{Bool, false}
 use mathlib.Core.List.{List}
-use lib.Dec.{leb, ltb}
+use Rattle.address_ranges.specs.Ranges.{covers}
 use Rattle.ultra_format.specs.Contexts.{Body, Context}
 use Rattle.ultra_format.specs.Contexts.{Body.platform, Body.kernel, Body.memoryMap, Body.moduleInfo, Body.commandLine, Body.framebuffer, Body.other}
 use Rattle.ultra_format.specs.Decoding.{contextOf}
-use Rattle.ultra_format.specs.declared.Answer.{Answer}
-use Rattle.ultra_format.specs.declared.Answer.the-variants.{Done}
+use Rattle.refusals.specs.declared.Answer.{Answer}
+use Rattle.refusals.specs.declared.Answer.the-variants.{Done}
 use Rattle.ultra_reading.specs.Reading.{usedLength}
 use Rattle.ultra_questions.specs.Passing.{ifAccepted}
 use Rattle.ultra_questions.specs.Searching.{firstIn, foundStart}
-
--- "address ≤ a < address + size": the sum is a whole number and does not wrap
-unfoldable pub covers : ℕ → ℕ → ℕ → Bool
-covers address size a = leb address a && ltb a (address + size)
 
 abbrev pub holding : ℕ → Body → Bool
 holding a (platform p) = false

@@ -10,13 +10,13 @@ use mathlib.Core.List.{List, []}
 use lib.ListN.{length}
 use denote.Ref.{RefT}
 use Rattle.byte_layout.specs.Stored.{Bytes}
-use Rattle.ultra_format.specs.Refusals.{COUNT, ROOM, ABSENT}
-use Rattle.ultra_format.specs.Answers.{numberOf, valueOf}
+use Rattle.refusals.specs.Refusals.{COUNT, ROOM, ABSENT}
+use Rattle.refusals.specs.Answers.{numberOf, valueOf}
 use Rattle.ultra_format.specs.Contexts.{Entry, Body.memoryMap, Context, count, bodyAt, typeAt, used}
-use Rattle.ultra_format.specs.declared.Refusal.{Refusal}
-use Rattle.ultra_format.specs.declared.Answer.{Answer}
-use Rattle.ultra_format.specs.declared.Answer.the-variants.{Refused}
-use Rattle.ultra_acceptance.specs.Acceptance.{HeldBy}
+use Rattle.refusals.specs.declared.Refusal.{Refusal}
+use Rattle.refusals.specs.declared.Answer.{Answer}
+use Rattle.refusals.specs.declared.Answer.the-variants.{Refused}
+use Rattle.ultra_acceptance.specs.Acceptance.{HoldsContext}
 use Rattle.ultra_reading.specs.Reading.{usedLength}
 use Rattle.ultra_questions.specs.Parts.{noPart}
 use Rattle.ultra_questions.specs.AttributeQuestion.{unanswered, attributeStart, attributeAnswer, PartHandedBack}
@@ -54,7 +54,7 @@ pub record QuestionsRefuse (b : List ℕ) (c : Context) : Type 0 where
   pub modules : (a : ℕ) (r : Refusal) → moduleHolding b a ≡ Refused r → ⊥
 
 abbrev pub QuestionsRefuseExactly : Type 0
-QuestionsRefuseExactly = (b : List ℕ) (c : Context) → HeldBy 2 b c → QuestionsRefuse b c
+QuestionsRefuseExactly = (b : List ℕ) (c : Context) → HoldsContext 2 b c → QuestionsRefuse b c
 
 -- ---- reading's refusals
 -- "Each reads first and passes its refusal on, except the command line, which has none."

@@ -5,10 +5,10 @@ use Prim.Native.Nat.{ℕ, _<_}
 use mathlib.Core.Path.{_≡_}
 use mathlib.Core.List.{List, _∷_}
 use lib.ListN.{length, getD}
-use Rattle.ultra_format.specs.Answers.{refused}
+use Rattle.refusals.specs.Answers.{refused}
 use Rattle.ultra_format.specs.Examples.{everyType, everyTypeBytes}
-use Rattle.ultra_format.specs.declared.Answer.the-variants.{Done}
-use Rattle.ultra_acceptance.specs.Acceptance.{HeldBy}
+use Rattle.refusals.specs.declared.Answer.the-variants.{Done}
+use Rattle.ultra_acceptance.specs.Acceptance.{HoldsContext}
 use Rattle.ultra_questions.specs.Parts.{part}
 use Rattle.ultra_questions.specs.AttributeQuestion.{attributeStart}
 use Rattle.ultra_questions.specs.MapQuestion.{mapCopied, mapCopiedBytes}
@@ -16,7 +16,7 @@ use Rattle.ultra_questions.specs.CommandLineQuestion.{commandLinePart}
 use Rattle.ultra_questions.specs.ModuleQuestion.{moduleHolding}
 
 pub record Witnessed : Type 0 where
-  pub holds : HeldBy 2 everyTypeBytes everyType
+  pub holds : HoldsContext 2 everyTypeBytes everyType
   -- seven attributes in 688 bytes
   pub last : attributeStart everyTypeBytes 6 ≡ Done 672
   pub past : attributeStart everyTypeBytes 7 ≡ refused 3 688

@@ -3,9 +3,9 @@ ghost use mathlib.Core.Path.{_≡_};
 ghost use Rattle.ultra_questions.specs.Parts.{PartOf};
 ghost use Rattle.ultra_questions.specs.AttributeQuestion.{attributeStart, attributeAnswer, unanswered};
 use crate::part::Part;
-use ultra_format::Answer;
+use refusals::Answer;
+use refusals::Refusal;
 use ultra_format::Records;
-use ultra_format::Refusal;
 use ultra_reading::Header;
 
 // What the question answers: done, with the attribute's start, or the refusal; then its type, start and size, its members, and for a map
@@ -26,7 +26,7 @@ pub fn attribute_start(buf: &[u8], index: u64) -> Answer
         return answer;
     };
     if words::load_u32(buf, 4) as u64 <= index {
-        return Answer::Refused(Refusal::new(ultra_format::COUNT, used));
+        return Answer::Refused(Refusal::new(refusals::COUNT, used));
     }
     Answer::Done(crate::search::start_of(buf, index))
 }

@@ -3,7 +3,7 @@ ghost use mathlib.Core.Path.{_≡_};
 ghost use Rattle.ultra_questions.specs.Parts.{PartOf};
 ghost use Rattle.ultra_questions.specs.CommandLineQuestion.{commandLinePart};
 use crate::part::Part;
-use ultra_format::Answer;
+use refusals::Answer;
 
 // Where the text is, and how long it is up to its zero; both 0 where there is none or the buffer is refused.
 pub fn command_line_part(buf: &[u8]) -> Part

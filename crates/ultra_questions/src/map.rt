@@ -5,10 +5,10 @@ ghost use lib.ListN.{length};
 ghost use Rattle.byte_layout.specs.Stored.{over};
 ghost use Rattle.words.specs.Words.{u32At, numbersAt};
 ghost use Rattle.ultra_questions.specs.MapQuestion.{mapCopied, mapCopiedBytes, mapPlace, entriesStored};
-use ultra_format::Answer;
-use ultra_format::Refusal;
+use refusals::Answer;
+use refusals::Refusal;
 
-// Copies the `n` numbers from `at` on to the front of `out`; what is behind them stays.
+// Copies the `n` numbers from `at` on to the front of `out`; what is after them stays.
 fn copy_numbers(bytes: &[u8], at: usize, n: usize, out: &mut [u64])
     requires { ⌜ (at + 8 * n ≤ length (now bytes)) × (n ≤ length (now out)) ⌝ }
     ensures { λ _. ⌜ now (out .exit) ≡ over (numbersAt (now (bytes .entry)) at n) (now (out .entry)) ⌝ }
@@ -38,16 +38,16 @@ fn place(buf: &[u8], capacity: usize) -> Answer
     };
     let start = crate::search::first_of_type(buf, 3);
     if start == 0 {
-        return Answer::Refused(Refusal::new(ultra_format::ABSENT, used));
+        return Answer::Refused(Refusal::new(refusals::ABSENT, used));
     }
     let numbers = 3 * entries_at(buf, start) as usize;
     if capacity < numbers {
-        return Answer::Refused(Refusal::new(ultra_format::ROOM, used));
+        return Answer::Refused(Refusal::new(refusals::ROOM, used));
     }
     Answer::Done(start)
 }
 
-// Copies the map's entries and answers how many there are; elements behind the last triple stay.
+// Copies the map's entries and answers how many there are; elements after the last triple stay.
 pub fn copy_map(buf: &[u8], out: &mut [u64]) -> Answer
     ensures { λ r. ⌜ (r, now (out .exit)) ≡ mapCopied (now (buf .entry)) (now (out .entry)) ⌝ }
 {
@@ -60,7 +60,7 @@ pub fn copy_map(buf: &[u8], out: &mut [u64]) -> Answer
     Answer::Done(entries)
 }
 
-// The same into bytes, "eight to a number": the output counts whole eights, and bytes behind the last triple stay.
+// The same into bytes, "eight to a number": the output counts whole eights, and bytes after the last triple stay.
 pub fn copy_map_bytes(buf: &[u8], out: &mut [u8]) -> Answer
     ensures { λ r. ⌜ (r, now (out .exit)) ≡ mapCopiedBytes (now (buf .entry)) (now (out .entry)) ⌝ }
 {

@@ -8,18 +8,8 @@ ghost use Rattle.ultra_format.specs.Members.{sizeSuits};
 ghost use Rattle.ultra_format.specs.Decoding.{contextOf, decoded};
 ghost use Rattle.ultra_questions.specs.Passing.{Accepts};
 ghost use Rattle.ultra_questions.specs.Searching.{firstIn, foundStart};
-ghost use Rattle.ultra_questions.specs.ModuleQuestion.{covers, holding, moduleHolding};
-use ultra_format::Answer;
-
-// Whether `size` bytes from `start` on cover `address`; the sum does not wrap, since it is not taken.
-fn covers(start: u64, size: u64, address: u64) -> bool
-    ensures { λ r. ⌜ r ≡ covers start size address ⌝ }
-{
-    if address < start {
-        return false;
-    }
-    address - start < size
-}
+ghost use Rattle.ultra_questions.specs.ModuleQuestion.{holding, moduleHolding};
+use refusals::Answer;
 
 // Whether the attribute in the `size` bytes from `at` on is a module that holds `address`.
 fn holds(buf: &[u8], at: usize, size: u32, address: u64) -> bool
@@ -30,7 +20,7 @@ fn holds(buf: &[u8], at: usize, size: u32, address: u64) -> bool
     if words::load_u32(buf, at) != 4 {
         return false;
     }
-    covers(
+    address_ranges::covers(
         words::load_u64(buf, at + 80),
         words::load_u64(buf, at + 88),
         address,

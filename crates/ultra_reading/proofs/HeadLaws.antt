@@ -8,20 +8,20 @@ use lib.Dec.{leb}
 use borrow.Author.Tests.{leb-true, le-leb, lt-leb, eqb-false, eq-eqb, ne-eqb, not-true}
 use Rattle.ultra_format.specs.Layouts.{roomOf}
 use Rattle.ultra_format.specs.Decoding.{storedCount}
-use Rattle.ultra_format.proofs.Chains.{passed, refuses, not-refused}
-use Rattle.ultra_format.specs.Answers.{refused}
-use Rattle.ultra_format.specs.declared.Answer.the-variants.{Done}
-use Rattle.ultra_reading.specs.Reading.{headFault, attributesAnswer, usedLength}
+use Rattle.refusals.proofs.Chains.{passed, refuses, not-refused}
+use Rattle.refusals.specs.Answers.{refused}
+use Rattle.refusals.specs.declared.Answer.the-variants.{Done}
+use Rattle.ultra_reading.specs.Reading.{headCheck, attributesAnswer, usedLength}
 
--- a head with no fault
+-- a head that breaks no rule
 pub record HeadHolds (fewest : ℕ) (b : List ℕ) : Type 0 where
   pub room : 8 ≤ roomOf b
   pub major : getD b 0 0 ≡ 0 → ⊥
   pub most : storedCount b ≤ 1024
   pub enough : fewest ≤ storedCount b
 
-pub head-holds : (fewest : ℕ) (b : List ℕ) → headFault fewest b ≡ 0 → HeadHolds fewest b
-unfolding headFault
+pub head-holds : (fewest : ℕ) (b : List ℕ) → headCheck fewest b ≡ 0 → HeadHolds fewest b
+unfolding headCheck
 head-holds fewest b e =
     let p1 = passed (leb 8 (roomOf b)) _ _ e in
     let p2 = passed _ _ _ (p1 .1) in
@@ -35,39 +35,39 @@ head-holds fewest b e =
     }
 
 module _ (fewest : ℕ) (b : List ℕ) where
-  pub stop-short : roomOf b < 8 → 1 ≡ headFault fewest b
-  unfolding headFault
+  pub stop-short : roomOf b < 8 → 1 ≡ headCheck fewest b
+  unfolding headCheck
   stop-short h = simp (lt-leb 8 (roomOf b) h)
 
   module _ (h : 8 ≤ roomOf b) where
-    pub stop-version : getD b 0 0 ≡ 0 → 2 ≡ headFault fewest b
-    unfolding headFault
+    pub stop-version : getD b 0 0 ≡ 0 → 2 ≡ headCheck fewest b
+    unfolding headCheck
     stop-version v = simp (le-leb 8 (roomOf b) h, eq-eqb (getD b 0 0) 0 v)
 
     module _ (v : getD b 0 0 ≡ 0 → ⊥) where
-      pub stop-count : 1024 < storedCount b → 3 ≡ headFault fewest b
-      unfolding headFault
+      pub stop-count : 1024 < storedCount b → 3 ≡ headCheck fewest b
+      unfolding headCheck
       stop-count n = simp (le-leb 8 (roomOf b) h, ne-eqb (getD b 0 0) 0 v, lt-leb (storedCount b) 1024 n)
 
       module _ (n : storedCount b ≤ 1024) where
-        pub stop-missing : storedCount b < fewest → 4 ≡ headFault fewest b
-        unfolding headFault
+        pub stop-missing : storedCount b < fewest → 4 ≡ headCheck fewest b
+        unfolding headCheck
         stop-missing m = simp (le-leb 8 (roomOf b) h, ne-eqb (getD b 0 0) 0 v, le-leb (storedCount b) 1024 n, lt-leb fewest (storedCount b) m)
 
-        pub head-passes : fewest ≤ storedCount b → 0 ≡ headFault fewest b
-        unfolding headFault
+        pub head-passes : fewest ≤ storedCount b → 0 ≡ headCheck fewest b
+        unfolding headCheck
         head-passes m = simp (le-leb 8 (roomOf b) h, ne-eqb (getD b 0 0) 0 v, le-leb (storedCount b) 1024 n, le-leb fewest (storedCount b) m)
 
 -- ---- what reading answers, by the head
-pub head-refuses : (fewest : ℕ) (b : List ℕ) → (headFault fewest b ≡ 0 → ⊥) → refused (headFault fewest b) 0 ≡ usedLength fewest b
+pub head-refuses : (fewest : ℕ) (b : List ℕ) → (headCheck fewest b ≡ 0 → ⊥) → refused (headCheck fewest b) 0 ≡ usedLength fewest b
 unfolding usedLength
-head-refuses fewest b n = sym (refuses (headFault fewest b) 0 _ n)
+head-refuses fewest b n = sym (refuses (headCheck fewest b) 0 _ n)
 
-pub head-goes-on : (fewest : ℕ) (b : List ℕ) → headFault fewest b ≡ 0 → attributesAnswer b (roomOf b) 0 (storedCount b) ≡ usedLength fewest b
+pub head-goes-on : (fewest : ℕ) (b : List ℕ) → headCheck fewest b ≡ 0 → attributesAnswer b (roomOf b) 0 (storedCount b) ≡ usedLength fewest b
 unfolding usedLength
 head-goes-on fewest b e = rw e
 
 -- an accepted buffer has a good head
 pub accepted-head : (fewest : ℕ) (b : List ℕ) (n : ℕ) → usedLength fewest b ≡ Done n → HeadHolds fewest b
 unfolding usedLength
-accepted-head fewest b n e = head-holds fewest b (not-refused (headFault fewest b) 0 _ n e .0)
+accepted-head fewest b n e = head-holds fewest b (not-refused (headCheck fewest b) 0 _ n e .0)

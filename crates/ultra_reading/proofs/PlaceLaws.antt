@@ -11,7 +11,7 @@ use native.Mathlib.Nat.{not-suc-le-zero, eq-or-lt-of-le, le-of-suc-le-suc}
 use lib.ListN.{length}
 use lib.Dec.{leb, eqb}
 use borrow.Author.Tests.{le-leb, lt-leb, eqb-false, eq-eqb, ne-eqb}
-use Rattle.ultra_format.specs.Places.{placed, single, repeatable, occurs, nearest, placeFault}
+use Rattle.ultra_format.specs.Places.{placed, single, repeatable, occurs, nearest, placeCheck}
 use Rattle.ultra_format.specs.Decoding.{storedType, typesBefore}
 use Rattle.ultra_reading.specs.Reading.{highestOf}
 
@@ -63,32 +63,32 @@ above-new (u ∷ us) t h = simp (ne-eqb u t (λ e. omega arith), above-new us t 
 
 -- ---- the answers
 module _ (before : List ℕ) (t : ℕ) where
-  pub stop-place : placed (length before) t ≡ false → 9 ≡ placeFault before t
-  unfolding placeFault
+  pub stop-place : placed (length before) t ≡ false → 9 ≡ placeCheck before t
+  unfolding placeCheck
   stop-place p = simp p
 
   module _ (p : placed (length before) t ≡ true) where
-    pub pass-low : t < 3 → 0 ≡ placeFault before t
-    unfolding placeFault
+    pub pass-low : t < 3 → 0 ≡ placeCheck before t
+    unfolding placeCheck
     pass-low h = simp (p, low-single t h, low-repeatable t h)
 
-    pub stop-repeat : single t ≡ true → occurs t before ≡ true → 10 ≡ placeFault before t
-    unfolding placeFault
+    pub stop-repeat : single t ≡ true → occurs t before ≡ true → 10 ≡ placeCheck before t
+    unfolding placeCheck
     stop-repeat s o = simp (p, s, o)
 
-    pub pass-new : occurs t before ≡ false → 0 ≡ placeFault before t
-    unfolding placeFault
+    pub pass-new : occurs t before ≡ false → 0 ≡ placeCheck before t
+    unfolding placeCheck
     pass-new o = simp (p, o, and-false)
 
-    pub pass-neighbour : single t ≡ false → t ≡ nearest before → 0 ≡ placeFault before t
-    unfolding placeFault
+    pub pass-neighbour : single t ≡ false → t ≡ nearest before → 0 ≡ placeCheck before t
+    unfolding placeCheck
     pass-neighbour s e = simp (p, s, eq-eqb (nearest before) t (sym e), and-false)
 
-    pub stop-split : 3 ≤ t → single t ≡ false → occurs t before ≡ true → (t ≡ nearest before → ⊥) → 11 ≡ placeFault before t
-    unfolding placeFault
+    pub stop-split : 3 ≤ t → single t ≡ false → occurs t before ≡ true → (t ≡ nearest before → ⊥) → 11 ≡ placeCheck before t
+    unfolding placeCheck
     stop-split h s o n = simp (p, s, high-repeatable t h s, o, ne-eqb (nearest before) t (λ e. n (sym e)))
 
-  pub pass-above : 2 ≤ length before → 2 < t → highestOf before < t → 0 ≡ placeFault before t
+  pub pass-above : 2 ≤ length before → 2 < t → highestOf before < t → 0 ≡ placeCheck before t
   pass-above l m h = pass-new later (above-new before t h)
     where
       later : placed (length before) t ≡ true

@@ -6,32 +6,32 @@ use mathlib.Core.List.{List}
 use native.Mathlib.Omega.{arith}
 use native.Mathlib.Numerals.{add-one}
 use Rattle.words.specs.Words.{u32At}
-use Rattle.ultra_format.specs.Answers.{refused}
-use Rattle.ultra_format.specs.Members.{bodyFault}
-use Rattle.ultra_format.specs.Places.{nearest, placeFault}
+use Rattle.refusals.specs.Answers.{refused}
+use Rattle.ultra_format.specs.Members.{bodyCheck}
+use Rattle.ultra_format.specs.Places.{nearest, placeCheck}
 use Rattle.ultra_format.specs.Decoding.{decoded, start, storedType, storedSize, typesBefore}
-use Rattle.ultra_format.specs.declared.Answer.the-variants.{Done}
-use Rattle.ultra_format.proofs.Chains.{none-first, first-stays, refuses}
-use Rattle.ultra_reading.specs.Reading.{boundsFault, attributeFault, faultOf, highestOf, attributesAnswer}
+use Rattle.refusals.specs.declared.Answer.the-variants.{Done}
+use Rattle.refusals.proofs.Chains.{none-first, first-stays, refuses}
+use Rattle.ultra_reading.specs.Reading.{boundsCheck, attributeCheck, checkOf, highestOf, attributesAnswer}
 use Rattle.ultra_reading.proofs.BoundsLaws.{BoundsHold, bounds-hold}
 
 -- ---- one attribute
 module _ (b : List ℕ) (room : ℕ) (before : List ℕ) (o : ℕ) where
-  pub attribute-bounds : attributeFault b room before o ≡ 0 → BoundsHold b room o
-  unfolding attributeFault
-  attribute-bounds e = bounds-hold b room o (none-first (boundsFault b room o) _ e .0)
+  pub attribute-bounds : attributeCheck b room before o ≡ 0 → BoundsHold b room o
+  unfolding attributeCheck
+  attribute-bounds e = bounds-hold b room o (none-first (boundsCheck b room o) _ e .0)
 
-  pub stop-bounds : (boundsFault b room o ≡ 0 → ⊥) → boundsFault b room o ≡ attributeFault b room before o
-  unfolding attributeFault
-  stop-bounds n = first-stays (boundsFault b room o) _ n
+  pub stop-bounds : (boundsCheck b room o ≡ 0 → ⊥) → boundsCheck b room o ≡ attributeCheck b room before o
+  unfolding attributeCheck
+  stop-bounds n = first-stays (boundsCheck b room o) _ n
 
-  module _ (h : boundsFault b room o ≡ 0) where
-    pub stop-placing : (placeFault before (u32At b o) ≡ 0 → ⊥) → placeFault before (u32At b o) ≡ attributeFault b room before o
-    unfolding attributeFault
-    stop-placing n = rw h (first-stays (placeFault before (u32At b o)) _ n)
+  module _ (h : boundsCheck b room o ≡ 0) where
+    pub stop-placing : (placeCheck before (u32At b o) ≡ 0 → ⊥) → placeCheck before (u32At b o) ≡ attributeCheck b room before o
+    unfolding attributeCheck
+    stop-placing n = rw h (first-stays (placeCheck before (u32At b o)) _ n)
 
-    pub only-body : placeFault before (u32At b o) ≡ 0 → bodyFault (u32At b (o + 4)) (decoded b o (u32At b (o + 4)) (u32At b o)) ≡ attributeFault b room before o
-    unfolding attributeFault
+    pub only-body : placeCheck before (u32At b o) ≡ 0 → bodyCheck (u32At b (o + 4)) (decoded b o (u32At b (o + 4)) (u32At b o)) ≡ attributeCheck b room before o
+    unfolding attributeCheck
     only-body p = rw (h, p)
 
 -- ---- the next attribute
@@ -49,13 +49,13 @@ highest-next b i = rw add-one
 
 -- ---- the answer from attribute i of n on
 module _ (b : List ℕ) (room i n : ℕ) where
-  pub walk-refuse : i < n → (faultOf b room i ≡ 0 → ⊥) → attributesAnswer b room i (n - i) ≡ refused (faultOf b room i) (start b i)
+  pub walk-refuse : i < n → (checkOf b room i ≡ 0 → ⊥) → attributesAnswer b room i (n - i) ≡ refused (checkOf b room i) (start b i)
   unfolding attributesAnswer
   walk-refuse l f =
       let q : n - i ≡ suc (n - (i + 1)) = omega arith in
-      rw q (refuses (faultOf b room i) (start b i) _ f)
+      rw q (refuses (checkOf b room i) (start b i) _ f)
 
-  pub walk-next : i < n → faultOf b room i ≡ 0 → attributesAnswer b room i (n - i) ≡ attributesAnswer b room (i + 1) (n - (i + 1))
+  pub walk-next : i < n → checkOf b room i ≡ 0 → attributesAnswer b room i (n - i) ≡ attributesAnswer b room (i + 1) (n - (i + 1))
   unfolding attributesAnswer
   walk-next l f =
       let q : n - i ≡ suc (n - (i + 1)) = omega arith in

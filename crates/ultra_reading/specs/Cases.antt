@@ -5,7 +5,7 @@ use Prim.Native.Nat.{ℕ}
 use mathlib.Core.Path.{_≡_}
 use mathlib.Core.List.{List, [], _∷_, _++_}
 use lib.ListN.{length, replicate}
-use Rattle.ultra_format.specs.Refusals.{SHORT, VERSION, COUNT, MISSING, HEADER, SIZE, OVERRUN, TYPE, PLACE, FORM}
+use Rattle.refusals.specs.Refusals.{SHORT, VERSION, COUNT, MISSING, HEADER, SIZE, OVERRUN, TYPE, PLACE, FORM}
 use Rattle.ultra_format.specs.Contexts.{Body.commandLine}
 use Rattle.ultra_format.specs.Plain.{writtenSize}
 use Rattle.ultra_reading.specs.Reading.{readingOf, readingNumber, readingValue}

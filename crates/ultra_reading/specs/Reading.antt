@@ -8,21 +8,21 @@ use mathlib.Core.List.{List, [], _∷_}
 use lib.ListN.{getD}
 use lib.Dec.{leb, eqb}
 use Rattle.words.specs.Words.{u32At}
-use Rattle.ultra_format.specs.Refusals.{unless, firstOf, SHORT, VERSION, COUNT, MISSING, HEADER, SIZE, OVERRUN, TYPE}
-use Rattle.ultra_format.specs.Answers.{orRefused}
+use Rattle.refusals.specs.Refusals.{unless, firstOf, SHORT, VERSION, COUNT, MISSING, HEADER, SIZE, OVERRUN, TYPE}
+use Rattle.refusals.specs.Answers.{orRefused, orRefusedAt}
 use Rattle.ultra_format.specs.Layouts.{roomOf}
-use Rattle.ultra_format.specs.Members.{bodyFault}
-use Rattle.ultra_format.specs.Places.{placeFault}
+use Rattle.ultra_format.specs.Members.{bodyCheck}
+use Rattle.ultra_format.specs.Places.{placeCheck}
 use Rattle.ultra_format.specs.Decoding.{decoded, start, storedCount, typesBefore}
-use Rattle.ultra_format.specs.declared.Answer.{Answer}
-use Rattle.ultra_format.specs.declared.Answer.the-variants.{Done, Refused}
+use Rattle.refusals.specs.declared.Answer.{Answer}
+use Rattle.refusals.specs.declared.Answer.the-variants.{Done, Refused}
 use Rattle.ultra_reading.specs.declared.Version.{Version}
 use Rattle.ultra_reading.specs.declared.Reading.{Reading}
 use Rattle.ultra_reading.specs.declared.Reading.the-variants as reading
 
 -- the head: the first of 1 to 4 that it breaks, or 0, with `fewest` as the lower limit of the count
-unfoldable pub headFault : ℕ → List ℕ → ℕ
-headFault fewest b =
+unfoldable pub headCheck : ℕ → List ℕ → ℕ
+headCheck fewest b =
     unless (leb 8 (roomOf b)) SHORT
     (unless (not (eqb (getD b 0 0) 0)) VERSION
     (unless (leb (storedCount b) 1024) COUNT
@@ -30,8 +30,8 @@ headFault fewest b =
     0)))
 
 -- the first of 5 to 8 that the attribute at `o` breaks, or 0
-unfoldable pub boundsFault : List ℕ → ℕ → ℕ → ℕ
-boundsFault b room o =
+unfoldable pub boundsCheck : List ℕ → ℕ → ℕ → ℕ
+boundsCheck b room o =
     unless (leb (o + 8) room) HEADER
     (unless (leb 8 (u32At b (o + 4))) SIZE
     (unless (eqb (u32At b (o + 4) % 8) 0) SIZE
@@ -39,34 +39,34 @@ boundsFault b room o =
     (unless (not (eqb (u32At b o) 0)) TYPE
     0))))
 
--- the first of 5 to 16 that the attribute at `o` breaks, behind those of the types `before`, or 0
-unfoldable pub attributeFault : List ℕ → ℕ → List ℕ → ℕ → ℕ
-attributeFault b room before o =
-    firstOf (boundsFault b room o)
-    (firstOf (placeFault before (u32At b o))
-    (bodyFault (u32At b (o + 4)) (decoded b o (u32At b (o + 4)) (u32At b o))))
+-- the first of 5 to 16 that the attribute at `o` breaks, after those of the types `before`, or 0
+unfoldable pub attributeCheck : List ℕ → ℕ → List ℕ → ℕ → ℕ
+attributeCheck b room before o =
+    firstOf (boundsCheck b room o)
+    (firstOf (placeCheck before (u32At b o))
+    (bodyCheck (u32At b (o + 4)) (decoded b o (u32At b (o + 4)) (u32At b o))))
 
 -- the same of attribute i
-abbrev pub faultOf : List ℕ → ℕ → ℕ → ℕ
-faultOf b room i = attributeFault b room (typesBefore b i) (start b i)
+abbrev pub checkOf : List ℕ → ℕ → ℕ → ℕ
+checkOf b room i = attributeCheck b room (typesBefore b i) (start b i)
 
--- the attributes before i have no fault
+-- the attributes before i break no rule
 abbrev pub Clear : List ℕ → ℕ → ℕ → Type 0
-Clear b room i = (j : ℕ) → j < i → faultOf b room j ≡ 0
+Clear b room i = (j : ℕ) → j < i → checkOf b room j ≡ 0
 
 -- the highest of some types, 0 where there is none
 unfoldable pub highestOf : List ℕ → ℕ
 highestOf [] = 0
 highestOf (u ∷ us) = max (highestOf us) u
 
--- n attributes from attribute i on: the first fault, or where they end
+-- n attributes from attribute i on: the first refusal, or where they end
 unfoldable pub attributesAnswer : List ℕ → ℕ → ℕ → ℕ → Answer
 attributesAnswer b room i zero = Done (start b i)
-attributesAnswer b room i (suc n) = orRefused (faultOf b room i) (start b i) (attributesAnswer b room (suc i) n)
+attributesAnswer b room i (suc n) = orRefusedAt (checkOf b room i) i (start b i) (attributesAnswer b room (suc i) n)
 
 -- the used length, or the refusal
 unfoldable pub usedLength : ℕ → List ℕ → Answer
-usedLength fewest b = orRefused (headFault fewest b) 0 (attributesAnswer b (roomOf b) 0 (storedCount b))
+usedLength fewest b = orRefused (headCheck fewest b) 0 (attributesAnswer b (roomOf b) 0 (storedCount b))
 
 -- "The version and the used length that reading answers"
 abbrev pub versionOf : List ℕ → Version

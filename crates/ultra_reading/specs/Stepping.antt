@@ -7,23 +7,32 @@ use mathlib.Core.Bool.{_&&_}
 use mathlib.Core.List.{List}
 use lib.Dec.{leb, eqb}
 use Rattle.words.specs.Words.{u32At}
-use Rattle.ultra_format.specs.Refusals.{unless, HEADER}
-use Rattle.ultra_format.specs.Answers.{refusal}
+use Rattle.refusals.specs.Refusals.{unless, HEADER}
+use Rattle.refusals.specs.declared.Refusal.{Refusal}
+use Rattle.refusals.specs.Answers.{refusal, refusalAt}
 use Rattle.ultra_format.specs.Layouts.{roomOf}
 use Rattle.ultra_format.specs.Decoding.{pick, storedCount}
-use Rattle.ultra_reading.specs.Reading.{headFault, boundsFault}
+use Rattle.ultra_reading.specs.Reading.{headCheck, boundsCheck}
 use Rattle.ultra_reading.specs.declared.cursor.Header.{Header}
 use Rattle.ultra_reading.specs.declared.cursor.Cursor.{Cursor}
 use Rattle.ultra_reading.specs.declared.cursor.Step.{Step}
 use Rattle.ultra_reading.specs.declared.cursor.Step.the-variants.{Attribute, End, Refused}
 
 -- the first of 5 to 8 that a cursor's offset breaks, or 0
-unfoldable pub cursorFault : List ℕ → ℕ → ℕ
-cursorFault b o = unless (leb 8 o && eqb (o % 8) 0) HEADER (boundsFault b (roomOf b) o)
+unfoldable pub cursorCheck : List ℕ → ℕ → ℕ
+cursorCheck b o = unless (leb 8 o && eqb (o % 8) 0) HEADER (boundsCheck b (roomOf b) o)
 
+-- the refusal, where its number is not 0; else what the rest answers
+abbrev pub stepUnless : ℕ → Refusal → Step → Step
+stepUnless zero r rest = rest
+stepUnless (suc n) r rest = Refused r
+
+-- of the whole, and of the attribute at the cursor's index
 abbrev pub stepRefused : ℕ → ℕ → Step → Step
-stepRefused zero o rest = rest
-stepRefused (suc n) o rest = Refused (refusal (suc n) o)
+stepRefused n o rest = stepUnless n (refusal n o) rest
+
+abbrev pub stepRefusedAt : ℕ → ℕ → ℕ → Step → Step
+stepRefusedAt n i o rest = stepUnless n (refusalAt n i o) rest
 
 abbrev pub cursorAt : ℕ → ℕ → Cursor
 cursorAt i o = record { index = i; offset = o }
@@ -33,9 +42,9 @@ headerAt b o = record { kind = u32At b o; start = o; size = u32At b (o + 4) }
 
 unfoldable pub stepOf : List ℕ → Cursor → Step
 stepOf b c =
-    stepRefused (headFault 2 b) 0
+    stepRefused (headCheck 2 b) 0
     (pick (leb (storedCount b) (c .index)) End
-    (stepRefused (cursorFault b (c .offset)) (c .offset)
+    (stepRefusedAt (cursorCheck b (c .offset)) (c .index) (c .offset)
     (Attribute (headerAt b (c .offset)) (cursorAt (c .index + 1) (c .offset + u32At b (c .offset + 4))))))
 
 -- 01's number and value of a step: "A step's value is the next cursor's offset, or 0 at the end."

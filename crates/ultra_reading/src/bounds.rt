@@ -2,28 +2,28 @@
 ghost use mathlib.Core.Path.{_≡_};
 ghost use Prim.Native.Nat.{_≤_};
 ghost use lib.ListN.{length};
-ghost use Rattle.ultra_reading.specs.Reading.{boundsFault};
+ghost use Rattle.ultra_reading.specs.Reading.{boundsCheck};
 
 // The first of 5 to 8 that the attribute at `at` breaks, or 0.
-pub fn fault(buf: &[u8], room: usize, at: usize) -> u32
+pub fn check(buf: &[u8], room: usize, at: usize) -> u16
     requires { ⌜ (room ≤ length (now buf)) × (at ≤ 4294967295) ⌝ }
-    ensures { λ r. ⌜ r ≡ boundsFault (now (buf .entry)) room at ⌝ }
+    ensures { λ r. ⌜ r ≡ boundsCheck (now (buf .entry)) room at ⌝ }
 {
     if room < at + 8 {
-        return ultra_format::HEADER;
+        return refusals::HEADER;
     }
     let size = words::load_u32(buf, at + 4);
     if size < 8 {
-        return ultra_format::SIZE;
+        return refusals::SIZE;
     }
     if size % 8 != 0 {
-        return ultra_format::SIZE;
+        return refusals::SIZE;
     }
     if room < at + size as usize {
-        return ultra_format::OVERRUN;
+        return refusals::OVERRUN;
     }
     if words::load_u32(buf, at) == 0 {
-        return ultra_format::TYPE;
+        return refusals::TYPE;
     }
     0
 }

@@ -1,7 +1,7 @@
 // Stepping: a cursor by value, whose step answers an attribute and the following cursor.
 ghost use mathlib.Core.Path.{_≡_};
-ghost use Rattle.ultra_reading.specs.Stepping.{cursorAt, cursorFault, stepOf};
-use ultra_format::Refusal;
+ghost use Rattle.ultra_reading.specs.Stepping.{cursorAt, cursorCheck, stepOf};
+use refusals::Refusal;
 
 // An attribute's type, start and size.
 pub struct Header {
@@ -23,16 +23,16 @@ pub enum Step {
 }
 
 // The first of 5 to 8 that a cursor's offset breaks, or 0.
-fn fault(buf: &[u8], offset: u32) -> u32
-    ensures { λ r. ⌜ r ≡ cursorFault (now (buf .entry)) offset ⌝ }
+fn check(buf: &[u8], offset: u32) -> u16
+    ensures { λ r. ⌜ r ≡ cursorCheck (now (buf .entry)) offset ⌝ }
 {
     if offset < 8 {
-        return ultra_format::HEADER;
+        return refusals::HEADER;
     }
     if offset % 8 != 0 {
-        return ultra_format::HEADER;
+        return refusals::HEADER;
     }
-    crate::bounds::fault(buf, crate::head::room(buf), offset as usize)
+    crate::bounds::check(buf, crate::head::room(buf), offset as usize)
 }
 
 impl Cursor {
@@ -52,16 +52,16 @@ impl Cursor {
     {
         let index = self.index;
         let offset = self.offset;
-        let head = crate::head::fault(buf, 2);
+        let head = crate::head::check(buf, 2);
         if head != 0 {
             return Step::Refused(Refusal::new(head, 0));
         }
         if words::load_u32(buf, 4) <= index {
             return Step::End;
         }
-        let number = fault(buf, offset);
+        let number = check(buf, offset);
         if number != 0 {
-            return Step::Refused(Refusal::new(number, offset));
+            return Step::Refused(Refusal::at(number, index, offset));
         }
         let at = offset as usize;
         let kind = words::load_u32(buf, at);

@@ -1,7 +1,7 @@
 // The head: refusals 1 to 4.
 ghost use mathlib.Core.Path.{_≡_};
 ghost use Rattle.ultra_format.specs.Layouts.{roomOf};
-ghost use Rattle.ultra_reading.specs.Reading.{headFault};
+ghost use Rattle.ultra_reading.specs.Reading.{headCheck};
 
 // Document 01's room: how many bytes of the buffer count.
 pub fn room(buf: &[u8]) -> usize
@@ -11,21 +11,21 @@ pub fn room(buf: &[u8]) -> usize
 }
 
 // The first of 1 to 4 that the head breaks, or 0.
-pub fn fault(buf: &[u8], fewest: u32) -> u32
-    ensures { λ r. ⌜ r ≡ headFault fewest (now (buf .entry)) ⌝ }
+pub fn check(buf: &[u8], fewest: u32) -> u16
+    ensures { λ r. ⌜ r ≡ headCheck fewest (now (buf .entry)) ⌝ }
 {
     if room(buf) < 8 {
-        return ultra_format::SHORT;
+        return refusals::SHORT;
     }
     if buf[0] == 0 {
-        return ultra_format::VERSION;
+        return refusals::VERSION;
     }
     let count = words::load_u32(buf, 4);
     if 1024 < count {
-        return ultra_format::COUNT;
+        return refusals::COUNT;
     }
     if count < fewest {
-        return ultra_format::MISSING;
+        return refusals::MISSING;
     }
     0
 }

@@ -11,9 +11,9 @@ pub use cursor::Cursor;
 pub use cursor::Header;
 pub use cursor::Step;
 pub use head::room;
-pub use place::next_place_fault;
-use ultra_format::Answer;
-use ultra_format::Refusal;
+pub use place::next_place_check;
+use refusals::Answer;
+use refusals::Refusal;
 
 pub struct Version {
     pub major: u8,
@@ -30,9 +30,9 @@ pub enum Reading {
 pub fn used_length(buf: &[u8], fewest: u32) -> Answer
     ensures { λ r. ⌜ r ≡ usedLength fewest (now (buf .entry)) ⌝ }
 {
-    let fault = head::fault(buf, fewest);
-    if fault != 0 {
-        return Answer::Refused(Refusal::new(fault, 0));
+    let number = head::check(buf, fewest);
+    if number != 0 {
+        return Answer::Refused(Refusal::new(number, 0));
     }
     let count = words::load_u32(buf, 4);
     walk::attributes(buf, head::room(buf), count)

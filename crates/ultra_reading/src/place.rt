@@ -2,7 +2,7 @@
 ghost use mathlib.Core.Path.{_≡_};
 ghost use Prim.Native.Nat.{_≤_};
 ghost use lib.ListN.{length};
-ghost use Rattle.ultra_format.specs.Places.{placed, single, occurs, nearest, placeFault};
+ghost use Rattle.ultra_format.specs.Places.{placed, single, occurs, nearest, placeCheck};
 ghost use Rattle.ultra_format.specs.Decoding.{typesBefore};
 ghost use Rattle.ultra_reading.specs.Reading.{Clear};
 
@@ -51,22 +51,22 @@ pub fn occurs(buf: &[u8], room: usize, kind: u32, count: u32) -> bool
     false
 }
 
-// The first of 9 to 11 that an attribute of type `kind` at `index` breaks, behind one of type `previous`, or 0.
-pub fn fault(buf: &[u8], room: usize, index: u32, previous: u32, kind: u32) -> u32
+// The first of 9 to 11 that an attribute of type `kind` at `index` breaks, after one of type `previous`, or 0.
+pub fn check(buf: &[u8], room: usize, index: u32, previous: u32, kind: u32) -> u16
     requires { ⌜ room ≤ length (now buf) ⌝ }
     requires { ⌜ Clear (now buf) room index ⌝ }
     requires { ⌜ (previous ≡ nearest (typesBefore (now buf) index)) × (1 ≤ kind) ⌝ }
-    ensures { λ r. ⌜ r ≡ placeFault (typesBefore (now (buf .entry)) index) kind ⌝ }
+    ensures { λ r. ⌜ r ≡ placeCheck (typesBefore (now (buf .entry)) index) kind ⌝ }
 {
     if !is_placed(index, kind) {
-        return ultra_format::PLACE;
+        return refusals::PLACE;
     }
     if kind < 3 {
         return 0;
     }
     if is_single(kind) {
         if occurs(buf, room, kind, index) {
-            return ultra_format::REPEAT;
+            return refusals::REPEAT;
         }
         return 0;
     }
@@ -74,7 +74,7 @@ pub fn fault(buf: &[u8], room: usize, index: u32, previous: u32, kind: u32) -> u
         return 0;
     }
     if occurs(buf, room, kind, index) {
-        return ultra_format::SPLIT;
+        return refusals::SPLIT;
     }
     0
 }
@@ -96,13 +96,13 @@ fn last_type(buf: &[u8], room: usize, count: u32) -> u32
     kind
 }
 
-// The first of 9 to 11 that one more attribute, of type `kind`, breaks behind `count` of them, or 0. For adding.
-pub fn next_place_fault(buf: &[u8], room: usize, count: u32, kind: u32) -> u32
+// The first of 9 to 11 that one more attribute, of type `kind`, breaks after `count` of them, or 0. For adding.
+pub fn next_place_check(buf: &[u8], room: usize, count: u32, kind: u32) -> u16
     requires { ⌜ room ≤ length (now buf) ⌝ }
     requires { ⌜ Clear (now buf) room count ⌝ }
     requires { ⌜ 1 ≤ kind ⌝ }
-    ensures { λ r. ⌜ r ≡ placeFault (typesBefore (now (buf .entry)) count) kind ⌝ }
+    ensures { λ r. ⌜ r ≡ placeCheck (typesBefore (now (buf .entry)) count) kind ⌝ }
 {
     let previous = last_type(buf, room, count);
-    fault(buf, room, count, previous, kind)
+    check(buf, room, count, previous, kind)
 }

@@ -2,11 +2,11 @@
 ghost use mathlib.Core.Path.{_≡_};
 ghost use Prim.Native.Nat.{_≤_, max};
 ghost use lib.ListN.{length};
-ghost use Rattle.ultra_format.specs.Places.{nearest, placeFault};
+ghost use Rattle.ultra_format.specs.Places.{nearest, placeCheck};
 ghost use Rattle.ultra_format.specs.Decoding.{typesBefore};
-ghost use Rattle.ultra_reading.specs.Reading.{Clear, highestOf, attributeFault, attributesAnswer};
-use ultra_format::Answer;
-use ultra_format::Refusal;
+ghost use Rattle.ultra_reading.specs.Reading.{Clear, highestOf, attributeCheck, attributesAnswer};
+use refusals::Answer;
+use refusals::Refusal;
 
 // The higher of two types.
 fn higher(a: u32, b: u32) -> u32
@@ -15,12 +15,12 @@ fn higher(a: u32, b: u32) -> u32
     if a < b { b } else { a }
 }
 
-// The first of 9 to 11, as `place::fault`, but with no search for a type above `highest`, the highest before: it did not occur.
-fn place_fault(buf: &[u8], room: usize, index: u32, previous: u32, highest: u32, kind: u32) -> u32
+// The first of 9 to 11, as `place::check`, but with no search for a type above `highest`, the highest before: it did not occur.
+fn place_check(buf: &[u8], room: usize, index: u32, previous: u32, highest: u32, kind: u32) -> u16
     requires { ⌜ (room ≤ length (now buf)) × (1 ≤ kind) ⌝ }
     requires { ⌜ Clear (now buf) room index ⌝ }
     requires { ⌜ (previous ≡ nearest (typesBefore (now buf) index)) × (highest ≡ highestOf (typesBefore (now buf) index)) ⌝ }
-    ensures { λ r. ⌜ r ≡ placeFault (typesBefore (now (buf .entry)) index) kind ⌝ }
+    ensures { λ r. ⌜ r ≡ placeCheck (typesBefore (now (buf .entry)) index) kind ⌝ }
 {
     if 2 <= index {
         if 2 < kind {
@@ -29,30 +29,30 @@ fn place_fault(buf: &[u8], room: usize, index: u32, previous: u32, highest: u32,
             }
         }
     }
-    crate::place::fault(buf, room, index, previous, kind)
+    crate::place::check(buf, room, index, previous, kind)
 }
 
 // The first of 5 to 16 that the attribute at `at` breaks, or 0. `index`, `previous` and `highest` are its index, the type just before
 // and the highest type before.
-fn fault(buf: &[u8], room: usize, index: u32, previous: u32, highest: u32, at: usize) -> u32
+fn check(buf: &[u8], room: usize, index: u32, previous: u32, highest: u32, at: usize) -> u16
     requires { ⌜ (room ≤ length (now buf)) × (at ≤ 4294967295) ⌝ }
     requires { ⌜ Clear (now buf) room index ⌝ }
     requires { ⌜ (previous ≡ nearest (typesBefore (now buf) index)) × (highest ≡ highestOf (typesBefore (now buf) index)) ⌝ }
-    ensures { λ r. ⌜ r ≡ attributeFault (now (buf .entry)) room (typesBefore (now (buf .entry)) index) at ⌝ }
+    ensures { λ r. ⌜ r ≡ attributeCheck (now (buf .entry)) room (typesBefore (now (buf .entry)) index) at ⌝ }
 {
-    let bounds = crate::bounds::fault(buf, room, at);
+    let bounds = crate::bounds::check(buf, room, at);
     if bounds != 0 {
         return bounds;
     }
     let kind = words::load_u32(buf, at);
-    let place = place_fault(buf, room, index, previous, highest, kind);
+    let place = place_check(buf, room, index, previous, highest, kind);
     if place != 0 {
         return place;
     }
-    ultra_members::body_fault(buf, at, words::load_u32(buf, at + 4), kind)
+    ultra_members::body_check(buf, at, words::load_u32(buf, at + 4), kind)
 }
 
-// The first fault of `count` attributes, or where they end.
+// The first refusal of `count` attributes, or where they end.
 pub fn attributes(buf: &[u8], room: usize, count: u32) -> Answer
     requires { ⌜ (room ≤ length (now buf)) × (room ≤ 65536) × (8 ≤ room) ⌝ }
     ensures { λ r. ⌜ r ≡ attributesAnswer (now (buf .entry)) room 0 count ⌝ }
@@ -62,9 +62,9 @@ pub fn attributes(buf: &[u8], room: usize, count: u32) -> Answer
     let mut highest = 0;
     let mut i = 0;
     while i < count {
-        let number = fault(buf, room, i, previous, highest, at);
+        let number = check(buf, room, i, previous, highest, at);
         if number != 0 {
-            return Answer::Refused(Refusal::new(number, at as u32));
+            return Answer::Refused(Refusal::at(number, i, at as u32));
         }
         previous = words::load_u32(buf, at);
         highest = higher(highest, previous);

@@ -47,7 +47,7 @@ numbers-append : (xs ys : List ℕ) → numbersFields (xs ++ ys) ≡ numbersFiel
 numbers-append [] ys = refl
 numbers-append (x ∷ xs) ys = ap (λ (fs : List Field). number 8 x ∷ fs) (numbers-append xs ys)
 
--- one number more behind the first i
+-- one number more after the first i
 pub number-more : {e q r : List ℕ} (fs : List Field) (ns : List ℕ) (i : ℕ) → i < length ns
     → Front e (8 + 8 * i) (fs ++ numbersFields (take i ns)) q → r ≡ replaced q (8 + 8 * i) 8 (littleEndian 8 (getD ns i 0))
     → Front e (8 + 8 * (i + 1)) (fs ++ numbersFields (take (i + 1) ns)) r
@@ -71,7 +71,7 @@ module _ (b : List ℕ) (h : length b % 24 ≡ 0) where
   unfolding bodyGiven
   bytes-size = omega (arith, map-size (numbersIn b), length-numbers b 0 (length b / 8))
 
-  -- bytes stored behind the header are the entries' fields
+  -- bytes stored after the header are the entries' fields
   pub bytes-stored : {e q r : List ℕ} → Bytes b → Front e 8 (headerFields 3 (8 + length b)) q → r ≡ replaced q 8 (length b) b → r ≡ over (newBytes (mapOf b)) e
   bytes-stored {e} {q} {r} y t s =
       let ns = numbersIn b in

@@ -25,7 +25,7 @@ fn header(part: &mut [u8], kind: u32, size: u32)
     words::store_u32(part, 4, size);
 }
 
-// Bytes in their field of `width` bytes from `at` on, with zeros behind them.
+// Bytes in their field of `width` bytes from `at` on, with zeros after them.
 fn store_padded(part: &mut [u8], at: usize, width: usize, bytes: &[u8])
     requires { ⌜ (at + width ≤ length (now part)) × (length (now bytes) ≤ width) ⌝ }
     ensures { λ _. ⌜ now (part .exit) ≡ replaced (now (part .entry)) at width (padded width (now (bytes .entry))) ⌝ }

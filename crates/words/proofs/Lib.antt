@@ -2,3 +2,4 @@ pub mod Widths
 pub mod Stores
 pub mod Numbers
 pub mod NumberBytes
+pub mod Comparisons

@@ -23,8 +23,8 @@ module _ (b x : List ℕ) (o k : ℕ) (l : length x ≡ k) where
         List·getD-append (take o b ++ x) (drop (o + k) b) 0 (o + i) (omega (arith, front-length))
         ∙ ap (λ (j : ℕ). getD (take o b ++ x) (j + i) 0) (sym (length-take-le o b h)) ∙ getD-append-add (take o b) x i 0
 
-    pub behind-it : (i : ℕ) → o + k ≤ i → getD (replaced b o k x) i 0 ≡ getD b i 0
-    behind-it i s =
+    pub after-it : (i : ℕ) → o + k ≤ i → getD (replaced b o k x) i 0 ≡ getD b i 0
+    after-it i s =
         let q : i ≡ length (take o b ++ x) + (i - (o + k)) = omega (arith, front-length) in
         let r : o + k + (i - (o + k)) ≡ i = omega arith in
         ap (λ (j : ℕ). getD (replaced b o k x) j 0) q ∙ getD-append-add (take o b ++ x) (drop (o + k) b) (i - (o + k)) 0

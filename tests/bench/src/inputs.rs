@@ -6,7 +6,7 @@ use crate::subjects::{add, Model, Subject};
 
 pub const ROOM: usize = 65_536;
 
-/// As many entries as fit behind the head, a platform and a kernel.
+/// As many entries as fit after the head, a platform and a kernel.
 const MAP_THAT_FILLS: usize = (ROOM - 8 - 88 - 336 - 8) / 24;
 
 /// A buffer of the whole room, as the structures of C ask: aligned to 8 bytes.

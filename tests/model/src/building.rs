@@ -13,7 +13,7 @@ pub fn begin(buf: &mut [u8]) -> Answer {
 }
 
 /// Reads the list, then tries 17, 9 to 11, the record's own `rules` (12 to 16) and 18;
-/// `write` fills the zeroed attribute behind its header.
+/// `write` fills the zeroed attribute after its header.
 fn add(
     buf: &mut [u8],
     kind: u32,

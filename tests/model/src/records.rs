@@ -2,7 +2,7 @@
 //! judged, and written. Reading and adding judge the same records.
 //!
 //! `parse` gives FORM where the size is outside the table; `check` gives VALUE, TEXT,
-//! RANGE and ORDER, in that order; `write` fills an attribute of zeros behind its header.
+//! RANGE and ORDER, in that order; `write` fills an attribute of zeros after its header.
 
 use crate::format::Number::{Form, Order, Range, Text, Value};
 use crate::format::*;
@@ -247,7 +247,7 @@ pub struct CommandLine<'a> {
 }
 
 impl<'a> CommandLine<'a> {
-    /// The field is the whole rest of the attribute; a zero behind it closes nothing.
+    /// The field is the whole rest of the attribute; a zero after it closes nothing.
     pub fn parse(bytes: &'a [u8]) -> Result<Self, Number> {
         ensure(bytes.len() >= COMMAND_LINE_LEAST, Form)?;
         Ok(CommandLine {

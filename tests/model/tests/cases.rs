@@ -352,7 +352,7 @@ fn texts_end_in_their_field() {
     assert_eq!(calls::read(&bytes), refused(Text, 8));
     bytes[8 + 18] = 0;
     bytes[8 + 20] = 0xFF;
-    assert_eq!(calls::read(&bytes), THIRD, "silent behind the zero");
+    assert_eq!(calls::read(&bytes), THIRD, "silent after the zero");
     bytes[8 + 17] = 0x80;
     assert_eq!(calls::read(&bytes), refused(Text, 8));
 

@@ -265,8 +265,8 @@ fn escapes_in_names() {
 #[test]
 fn empty_texts_have_their_lines() {
     let bytes = with(&[
-        named_module(1, b"\0behind", 0, 0),
-        attribute(5, 16, &[(8, b"\0behind")]),
+        named_module(1, b"\0after", 0, 0),
+        attribute(5, 16, &[(8, b"\0after")]),
     ]);
     let more = "module=1,0,0\nmodname=\ncmdline=\nused=544\n";
     assert_listing(&bytes, &(opening(4) + more));

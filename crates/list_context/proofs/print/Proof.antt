@@ -7,7 +7,7 @@ use native.Mathlib.Omega.{arith}
 use lib.ListN.{length}
 use lib.Seq.{length-take-le}
 use denote.Ref.{now}
-use Rattle.ultra_format.specs.declared.Answer.{Answer}
+use Rattle.refusals.specs.declared.Answer.{Answer}
 use Rattle.ultra_listing.proofs.Written.{listed-within}
 use borrow.Author.Needs.{needs}
 use Rattle.list_context.proofs.print.Statement.{statement}

@@ -2,9 +2,9 @@
 -- Assumes nothing.
 use Prim.Native.Nat.{ℕ}
 use mathlib.Core.Path.{_≡_, sym, ap, ap₂, _∙_}
-use Rattle.ultra_format.specs.Answers.{refusal}
-use Rattle.ultra_format.specs.declared.Answer.the-variants.{Refused}
-use Rattle.ultra_reading.specs.Reading.{attributesAnswer, headFault}
+use Rattle.refusals.specs.Answers.{refusal}
+use Rattle.refusals.specs.declared.Answer.the-variants.{Refused}
+use Rattle.ultra_reading.specs.Reading.{attributesAnswer, headCheck}
 use native.Mathlib.Omega.{arith}
 use denote.Ref.{now}
 use Rattle.ultra_reading.proofs.HeadLaws.{head-holds, head-refuses, head-goes-on}
@@ -12,18 +12,18 @@ use borrow.Author.Needs.{needs}
 use Rattle.ultra_reading.proofs.used_length.Statement.{statement}
 use Rattle.ultra_reading.proofs.used_length.Tie as tie
 
-head-fine : (c : tie.Else1) → headFault (c .before .before .before .args .fewest) (now (c .before .before .before .args .buf)) ≡ 0
-head-fine c = sym (c .before .fault .ensures) ∙ c .if1 .left
+head-fine : (c : tie.Else1) → headCheck (c .before .before .before .args .fewest) (now (c .before .before .before .args .buf)) ≡ 0
+head-fine c = sym (c .before .check .ensures) ∙ c .if1 .left
 
-fault-requires : tie.Need-fault-requires
-fault-requires c κs = search needs
+check-requires : tie.Need-check-requires
+check-requires c κs = search needs
 
 new-requires : tie.Need-new-requires
 new-requires c κs = search needs
 
 returns : tie.Need-returns
 returns c =
-    let e = c .before .before .fault .ensures in
+    let e = c .before .before .check .ensures in
     ap Refused (c .new .ensures ∙ ap (λ (n : ℕ). refusal n 0) e) ∙ head-refuses _ _ (λ z. c .before .if1 .taken (e ∙ z))
 
 load-u32-requires : tie.Need-load-u32-requires
@@ -46,7 +46,7 @@ pub used-length-spec : {M : Type 1} → statement M
 used-length-spec =
     tie.close
     (tie.spec
-    fault-requires
+    check-requires
     new-requires
     returns
     load-u32-requires

@@ -1,4 +1,4 @@
--- `store_padded` meets its contract: the bytes and the zeros behind them are one field.
+-- `store_padded` meets its contract: the bytes and the zeros after them are one field.
 -- Assumes nothing.
 use Prim.Native.Nat.{_-_}
 use native.Mathlib.Omega.{arith}

@@ -82,7 +82,7 @@ fn resize(rng: &mut Rng, attribute: &mut Vec<u8>, size: usize) {
     set_size(attribute, size as u32);
 }
 
-fn fill_behind_zero(rng: &mut Rng, field: &mut [u8]) {
+fn fill_after_zero(rng: &mut Rng, field: &mut [u8]) {
     if let Some(zero) = field.iter().position(|&byte| byte == 0) {
         rng.fill(&mut field[zero + 1..]);
     }
@@ -93,23 +93,23 @@ fn make_foreign(rng: &mut Rng, attribute: &mut Vec<u8>) {
     let longer = attribute.len() + 8 * rng.below(4);
     match kind_of(attribute) {
         1 => {
-            fill_behind_zero(rng, &mut attribute[16..48]);
+            fill_after_zero(rng, &mut attribute[16..48]);
             rng.fill(&mut attribute[65..72]);
             let size = rng.pick(&[56, 64, 72, 80, 88, 96, 104, 160]);
             resize(rng, attribute, size);
         }
         2 => {
-            fill_behind_zero(rng, &mut attribute[80..336]);
+            fill_after_zero(rng, &mut attribute[80..336]);
             resize(rng, attribute, longer);
         }
         3 => {}
         4 => {
             rng.fill(&mut attribute[8..12]);
-            fill_behind_zero(rng, &mut attribute[16..80]);
+            fill_after_zero(rng, &mut attribute[16..80]);
             resize(rng, attribute, longer);
         }
         5 => {
-            fill_behind_zero(rng, &mut attribute[8..]);
+            fill_after_zero(rng, &mut attribute[8..]);
             resize(rng, attribute, longer);
         }
         6 => resize(rng, attribute, longer),
@@ -158,7 +158,7 @@ fn good_layout(rng: &mut Rng, foreign: bool) -> Layout {
     layout
 }
 
-/// How much room is left behind a list of this many attributes: often just enough for one
+/// How much room is left after a list of this many attributes: often just enough for one
 /// more, or one byte less.
 fn spare(rng: &mut Rng, count: usize) -> usize {
     let wanted = match count {
@@ -176,7 +176,7 @@ fn spare(rng: &mut Rng, count: usize) -> usize {
     }
 }
 
-/// Behind the context there may be anything.
+/// After the context there may be anything.
 fn junk(rng: &mut Rng, length: usize) -> Vec<u8> {
     match rng.below(4) {
         0 => vec![0; length],
@@ -201,7 +201,7 @@ fn cut_at(rng: &mut Rng, mut bytes: Vec<u8>, length: usize) -> Start {
     }
 }
 
-/// Lends all of a layout with some room behind it.
+/// Lends all of a layout with some room after it.
 fn with_spare(rng: &mut Rng, layout: &Layout) -> Start {
     let mut bytes = layout.bytes();
     let spare = spare(rng, layout.attributes.len());
@@ -221,8 +221,8 @@ pub fn random(rng: &mut Rng) -> Start {
         // Small numbers come nearer to something.
         bytes.iter_mut().for_each(|byte| *byte &= 7);
     }
-    let behind = rng.bytes(16);
-    bytes.extend(behind);
+    let after = rng.bytes(16);
+    bytes.extend(after);
     cut_at(rng, bytes, length)
 }
 
@@ -526,7 +526,7 @@ pub fn boundary(rng: &mut Rng) -> Start {
 }
 
 /// Texts about their closing zero: at the end of the field or nowhere in it, and bytes
-/// about 0, 127 and 128 before and behind it.
+/// about 0, 127 and 128 before and after it.
 fn text_boundary(rng: &mut Rng, foreign: bool) -> Start {
     let mut types = types(rng, foreign);
     let kind = rng.pick(&[1, 2, 4, 5]);
@@ -570,7 +570,7 @@ fn text_boundary(rng: &mut Rng, foreign: bool) -> Start {
     with_spare(rng, &layout)
 }
 
-/// Changes one number behind the header.
+/// Changes one number after the header.
 fn nudge(rng: &mut Rng, attribute: &mut [u8]) {
     if attribute.len() < 16 {
         return;
@@ -684,7 +684,7 @@ pub fn many(rng: &mut Rng) -> Start {
 
 /// Types of attributes that only fill.
 const FILLER: u32 = 1 << 20;
-const BEHIND: u32 = FILLER + 1;
+const AFTER: u32 = FILLER + 1;
 
 /// Buffers about 65,536 bytes and longer: contexts that end there, or pass it, or leave
 /// just enough room for one more attribute.
@@ -705,14 +705,14 @@ pub fn large(rng: &mut Rng) -> Start {
         // One more attribute, which lies past the end.
         layout.set_count(layout.attributes.len() as u32 + 1);
     }
-    // Behind the end there are good attributes, for a reader that goes too far.
+    // After the end there are good attributes, for a reader that goes too far.
     let lengths = [
         65_528, 65_535, ROOM, ROOM, 65_537, 65_544, 66_000, 70_000, 70_000,
     ];
     let length = rng.pick(&lengths);
     let mut bytes = layout.bytes();
     while bytes.len() < length + 64 {
-        bytes.extend(Record::Other(BEHIND, 8).attribute());
+        bytes.extend(Record::Other(AFTER, 8).attribute());
     }
     cut_at(rng, bytes, length)
 }

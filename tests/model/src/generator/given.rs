@@ -29,7 +29,7 @@ pub fn hex(bytes: &[u8]) -> String {
 #[derive(Clone, Default)]
 pub struct Start {
     pub buffer: Given,
-    /// What would come behind the lent bytes.
+    /// What would come after the lent bytes.
     pub beyond: Vec<u8>,
     /// The used length that reading has to answer, where the bytes were laid out as a
     /// context.

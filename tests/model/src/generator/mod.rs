@@ -10,7 +10,7 @@ pub mod rng;
 /// The seed of a driver that is given none.
 pub const DEFAULT_SEED: u64 = 0x554C_5442;
 
-/// A number given to a driver: decimal, or hexadecimal behind `0x`.
+/// A number given to a driver: decimal, or hexadecimal after `0x`.
 pub fn number(text: &str) -> Option<u64> {
     match text.strip_prefix("0x") {
         Some(digits) => u64::from_str_radix(digits, 16).ok(),

@@ -1,6 +1,6 @@
 //! Contexts written byte by byte from the paper's table, never with the model's own adds.
 
-/// An attribute of `size` zero bytes behind its header, with members put over them.
+/// An attribute of `size` zero bytes after its header, with members put over them.
 pub fn attribute(kind: u32, size: u32, members: &[(usize, &[u8])]) -> Vec<u8> {
     let mut bytes = vec![0; size as usize];
     bytes[..4].copy_from_slice(&kind.to_le_bytes());

@@ -2,7 +2,7 @@
 -- Assumes nothing.
 use borrow.Author.Needs.{needs}
 use denote.Ref.{now}
-use Rattle.key_value_text.proofs.Puts.{byte-behind}
+use Rattle.key_value_text.proofs.Puts.{byte-after}
 use Rattle.key_value_text.proofs.lines.put_key.Statement.{statement}
 use Rattle.key_value_text.proofs.lines.put_key.Tie as tie
 use Rattle.key_value_text.proofs.lines.put_key.Reads as reads
@@ -28,7 +28,7 @@ returns c =
     let p = c .before .before in
     let q = p .before .before .before .before in
     let a = q .before .before .before .before .args in
-    byte-behind _ _ _ (now (a .key)) 61 (q .put-all .ensures) (p .put .ensures)
+    byte-after _ _ _ (now (a .key)) 61 (q .put-all .ensures) (p .put .ensures)
 
 pub put-key-spec : {M : Type 1} → statement M
 put-key-spec = tie.close (tie.spec put-all-requires put-requires same-length returns)

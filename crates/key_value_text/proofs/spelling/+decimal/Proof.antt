@@ -6,7 +6,7 @@ use native.Mathlib.Omega.{arith}
 use borrow.Fn.Kinds.{In}
 use borrow.Fn.PlainCycle.{Measures, is, falls, and}
 use Rattle.key_value_text.specs.Spelling.{decimal as spelled}
-use Rattle.key_value_text.proofs.Puts.{puts-one, byte-behind}
+use Rattle.key_value_text.proofs.Puts.{puts-one, byte-after}
 use Rattle.key_value_text.proofs.Digits.{one-digit, decimal-more}
 use Rattle.key_value_text.proofs.spelling.decimal.Reads as decimal
 use Rattle.key_value_text.proofs.spelling.decimal.Kinds as decimal-kinds
@@ -120,7 +120,7 @@ decimal-returns-2 t c =
     let d = p .before .before .before .before in
     let b = d .before .before in
     let a = b .before .before in
-    rw (decimal-more (a .args .number) (b .if1 .left) (omega arith)) (byte-behind _ _ _ (spelled (a .args .number / 10)) _ (d .decimal .ensures) (p .put2 .ensures))
+    rw (decimal-more (a .args .number) (b .if1 .left) (omega arith)) (byte-after _ _ _ (spelled (a .args .number / 10)) _ (d .decimal .ensures) (p .put2 .ensures))
 
 pub +decimal-spec : {M : Type 1} → statement M
 +decimal-spec = close μ-decimal λ t. decimal-lts.spec (

@@ -7,14 +7,14 @@ use borrow.Author.Needs.{needs}
 use lib.ListN.{length, drop}
 use denote.Ref.{now}
 use Rattle.key_value_text.specs.Output.{puts}
-use Rattle.key_value_text.specs.Spelling.{each, behind, joined}
+use Rattle.key_value_text.specs.Spelling.{each, after, joined}
 use Rattle.key_value_text.proofs.Puts.{byte-before, list-next, list-end, joined-none, joined-first}
 use Rattle.key_value_text.proofs.spelling.joined.Statement.{statement}
 use Rattle.key_value_text.proofs.spelling.joined.Tie as tie
 
 abbrev Inv-loop : tie.InvT-loop
 Inv-loop out₀ to separator numbers at₀ i₀ out at i =
-    (i ≤ length numbers) × (length out ≡ length out₀) × (puts (out, at) (each (behind separator) (drop i numbers)) ≡ puts (out₀, at₀) (each (behind separator) (drop 1 numbers)))
+    (i ≤ length numbers) × (length out ≡ length out₀) × (puts (out, at) (each (after separator) (drop i numbers)) ≡ puts (out₀, at₀) (each (after separator) (drop 1 numbers)))
 
 abbrev μ-loop : tie.MeasureT-loop
 μ-loop out₀ to separator numbers at₀ i₀ out at i = length numbers - i
@@ -60,7 +60,7 @@ loop-again c =
     let a = l .before .before .before .before .before .before .before .before .before .args in (
       omega arith,
       d .decimal2 .kept .0 ∙ p .put .kept .0 ∙ l .loop .inv .1,
-      list-next (behind (a .separator)) _ _ (now (a .numbers)) (l .loop .i) (i .loop-test .taken) (byte-before _ _ _ (a .separator) _ (p .put .ensures) (d .decimal2 .ensures)) ∙ l .loop .inv .2,
+      list-next (after (a .separator)) _ _ (now (a .numbers)) (l .loop .i) (i .loop-test .taken) (byte-before _ _ _ (a .separator) _ (p .put .ensures) (d .decimal2 .ensures)) ∙ l .loop .inv .2,
     )
 
 same-length : tie.Need-same-length Inv-loop μ-loop
@@ -72,7 +72,7 @@ returns-2 c =
     let d = l .before .before .before in
     let b = d .before .before .before in
     let a = b .before .before .before .args in
-    sym (list-end (behind (a .separator)) _ (now (a .numbers)) (l .loop .i) (c .loop-test .left))
+    sym (list-end (after (a .separator)) _ (now (a .numbers)) (l .loop .i) (c .loop-test .left))
     ∙ l .loop .inv .2
     ∙ joined-first _ (a .separator) _ (now (a .numbers)) (b .if1 .left) (d .decimal .ensures)
 

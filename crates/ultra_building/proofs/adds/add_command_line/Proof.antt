@@ -10,9 +10,9 @@ use Rattle.ultra_building.proofs.Adding.{GivenBy, PlaceBy, place, add-r
 use Rattle.ultra_building.proofs.adds.add_command_line.Statement.{statement}
 use Rattle.ultra_building.proofs.adds.add_command_line.Tie as tie
 
-given : (c : tie.After-size) → GivenBy (addCommandLine (now (c .before .before .before .before .args .text))) 5 (c .before .fault .result) (c .size .result)
+given : (c : tie.After-size) → GivenBy (addCommandLine (now (c .before .before .before .before .args .text))) 5 (c .before .check .result) (c .size .result)
 unfolding bodyGiven
-given c = record { kind = refl; faulty = c .before .fault .ensures; wide = c .size .ensures }
+given c = record { kind = refl; checked = c .before .check .ensures; wide = c .size .ensures }
 
 here : (c : tie.After-known-told)
     → let z = c .before .before .before .before .before .before .before in
@@ -21,8 +21,8 @@ here c =
     let o = c .before .before .before .before .before in
     place _ _ _ _ _ _ _ (given (o .before .before)) _ (o .admit .ensures) _ (c .before .answer .given .1)
 
-fault-requires : tie.Need-fault-requires
-fault-requires c κs = search needs
+check-requires : tie.Need-check-requires
+check-requires c κs = search needs
 
 size-requires : tie.Need-size-requires
 size-requires c κs = search needs
@@ -79,7 +79,7 @@ pub add-command-line-spec : {M : Type 1} → statement M
 add-command-line-spec =
     tie.close
     (tie.spec
-    fault-requires
+    check-requires
     size-requires
     admit-requires
     enum-known-answer

@@ -10,9 +10,9 @@ use Rattle.ultra_building.proofs.Adding.{GivenBy, PlaceBy, place, add-r
 use Rattle.ultra_building.proofs.adds.add_framebuffer.Statement.{statement}
 use Rattle.ultra_building.proofs.adds.add_framebuffer.Tie as tie
 
-given : (c : tie.After-fault) → GivenBy (addFramebuffer (c .before .before .args .given)) 6 (c .fault .result) 32
+given : (c : tie.After-check) → GivenBy (addFramebuffer (c .before .before .args .given)) 6 (c .check .result) 32
 unfolding bodyGiven writtenSize
-given c = record { kind = refl; faulty = c .fault .ensures; wide = refl }
+given c = record { kind = refl; checked = c .check .ensures; wide = refl }
 
 here : (c : tie.After-known-told)
     → PlaceBy (c .before .before .before .before .before .admit .last .0) (addFramebuffer (c .before .before .before .before .before .before .before .before .before .args .given)) (c .before .answer .given .0 .0) 32
@@ -20,8 +20,8 @@ here c =
     let o = c .before .before .before .before .before in
     place _ _ _ _ _ _ _ (given (o .before .before)) _ (o .admit .ensures) _ (c .before .answer .given .1)
 
-fault-requires : tie.Need-fault-requires
-fault-requires c κs = search needs
+check-requires : tie.Need-check-requires
+check-requires c κs = search needs
 
 admit-requires : tie.Need-admit-requires
 admit-requires c κs = search needs
@@ -72,7 +72,7 @@ pub add-framebuffer-spec : {M : Type 1} → statement M
 add-framebuffer-spec =
     tie.close
     (tie.spec
-    fault-requires
+    check-requires
     admit-requires
     enum-known-answer
     enum-told

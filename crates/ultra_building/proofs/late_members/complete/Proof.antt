@@ -2,7 +2,7 @@
 -- Assumes nothing.
 use borrow.Author.Needs.{needs}
 use Rattle.ultra_format.specs.Members.{sizeSuits}
-use Rattle.ultra_members.proofs.Comparisons.{failed, held}
+use Rattle.words.proofs.Comparisons.{failed, held}
 use Rattle.ultra_building.proofs.late_members.complete.Statement.{statement}
 use Rattle.ultra_building.proofs.late_members.complete.Tie as tie
 

@@ -9,7 +9,7 @@ use Rattle.ultra_format.specs.Members.{sizeSuits, values, texts, ranges, ordere
 use Rattle.ultra_format.specs.Plain.{writtenSize}
 use Rattle.ultra_format.specs.Additions.{kernelOf, guidsFormed}
 use Rattle.ultra_building.proofs.GivenMembers.{path-short, guids-wide}
-use Rattle.ultra_given.proofs.Judged.{judged}
+use Rattle.ultra_arguments.proofs.Judged.{judged}
 use Rattle.ultra_building.proofs.Adding.{given-holds, Given, Place, place, add-refused, add-done}
 use Rattle.ultra_building.proofs.members.add_kernel.Statement.{statement}
 use Rattle.ultra_building.proofs.members.add_kernel.Tie as tie
@@ -17,9 +17,9 @@ use Rattle.ultra_building.proofs.members.add_kernel.Tie as tie
 abbrev body : tie.Start → Body
 body c = kernelOf (c .args .phys) (c .args .virt) (c .args .size) (c .args .partition-type) (now (c .args .disk)) (now (c .args .partition)) (c .args .disk-index) (c .args .partition-index) (now (c .args .path))
 
-given : (c : tie.After-fault) → Given (guidsFormed (now ((c .before .before .before .before .before) .args .disk)) (now ((c .before .before .before .before .before) .args .partition))) (body (c .before .before .before .before .before)) 2 (c .fault .result) 336
+given : (c : tie.After-check) → Given (guidsFormed (now ((c .before .before .before .before .before) .args .disk)) (now ((c .before .before .before .before .before) .args .partition))) (body (c .before .before .before .before .before)) 2 (c .check .result) 336
 unfolding writtenSize sizeSuits values texts ranges ordered
-given c = record { kind = refl; faulty = c .fault .ensures ∙ judged _ (body (c .before .before .before .before .before)) refl refl refl refl refl; wide = refl }
+given c = record { kind = refl; checked = c .check .ensures ∙ judged _ (body (c .before .before .before .before .before)) refl refl refl refl refl; wide = refl }
 
 here : (c : tie.After-known-told)
     → let s = c .before .before .before .before .before .before .before .before .before .before .before .before in
@@ -28,8 +28,8 @@ here c =
     let o = c .before .before .before .before .before in
     place _ _ _ _ _ _ _ (given (o .before .before)) _ (o .admit .ensures) _ (c .before .answer .given .1)
 
-fault-requires : tie.Need-fault-requires
-fault-requires c κs = search needs
+check-requires : tie.Need-check-requires
+check-requires c κs = search needs
 
 admit-requires : tie.Need-admit-requires
 admit-requires c κs = search needs
@@ -86,7 +86,7 @@ pub add-kernel-spec : {M : Type 1} → statement M
 add-kernel-spec =
     tie.close
     (tie.spec
-    fault-requires
+    check-requires
     admit-requires
     enum-known-answer
     enum-told

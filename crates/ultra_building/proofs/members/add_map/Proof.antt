@@ -17,8 +17,8 @@ use Rattle.ultra_building.proofs.members.add_map.Tie as tie
 abbrev bytes : tie.Start → List ℕ
 bytes c = now (c .args .entries)
 
-given : (c : tie.After-bytes-fault) → Given (mapFormed (bytes (c .before .before .before))) (mapOf (bytes (c .before .before .before))) 3 (c .bytes-fault .result) (8 + length (bytes (c .before .before .before)) / 24 * 24)
-given c = record { kind = refl; faulty = c .bytes-fault .ensures; wide = omega (arith, map-given-size (bytes (c .before .before .before))) }
+given : (c : tie.After-bytes-check) → Given (mapFormed (bytes (c .before .before .before))) (mapOf (bytes (c .before .before .before))) 3 (c .bytes-check .result) (8 + length (bytes (c .before .before .before)) / 24 * 24)
+given c = record { kind = refl; checked = c .bytes-check .ensures; wide = omega (arith, map-given-size (bytes (c .before .before .before))) }
 
 here : (c : tie.After-known-told)
     → let b = bytes (c .before .before .before .before .before .before .before .before .before .before) in
@@ -27,8 +27,8 @@ here c =
     let o = c .before .before .before .before .before in
     place _ _ _ _ _ _ _ (given (o .before .before)) _ (o .admit .ensures) _ (c .before .answer .given .1)
 
-bytes-fault-requires : tie.Need-bytes-fault-requires
-bytes-fault-requires c κs = search needs
+bytes-check-requires : tie.Need-bytes-check-requires
+bytes-check-requires c κs = search needs
 
 mul-size : tie.Need-mul-size
 mul-size c = search needs
@@ -92,7 +92,7 @@ pub add-map-spec : {M : Type 1} → statement M
 add-map-spec =
     tie.close
     (tie.spec
-    bytes-fault-requires
+    bytes-check-requires
     mul-size
     add-size
     admit-requires

@@ -10,7 +10,7 @@ use Rattle.ultra_format.specs.Plain.{writtenSize}
 use mathlib.Core.Bool.{true}
 use Rattle.ultra_format.specs.Additions.{moduleOf}
 use Rattle.ultra_building.proofs.GivenMembers.{name-short}
-use Rattle.ultra_given.proofs.Judged.{judged}
+use Rattle.ultra_arguments.proofs.Judged.{judged}
 use Rattle.ultra_building.proofs.Adding.{given-holds, Given, Place, place, add-refused, add-done}
 use Rattle.ultra_building.proofs.members.add_module.Statement.{statement}
 use Rattle.ultra_building.proofs.members.add_module.Tie as tie
@@ -18,9 +18,9 @@ use Rattle.ultra_building.proofs.members.add_module.Tie as tie
 abbrev body : tie.Start → Body
 body c = moduleOf (c .args .kind) (now (c .args .name)) (c .args .address) (c .args .size)
 
-given : (c : tie.After-fault) → Given (true) (body (c .before .before .before)) 4 (c .fault .result) 96
+given : (c : tie.After-check) → Given (true) (body (c .before .before .before)) 4 (c .check .result) 96
 unfolding writtenSize sizeSuits values texts ranges ordered
-given c = record { kind = refl; faulty = c .fault .ensures ∙ judged _ (body (c .before .before .before)) refl refl refl refl refl; wide = refl }
+given c = record { kind = refl; checked = c .check .ensures ∙ judged _ (body (c .before .before .before)) refl refl refl refl refl; wide = refl }
 
 here : (c : tie.After-known-told)
     → let s = c .before .before .before .before .before .before .before .before .before .before in
@@ -29,8 +29,8 @@ here c =
     let o = c .before .before .before .before .before in
     place _ _ _ _ _ _ _ (given (o .before .before)) _ (o .admit .ensures) _ (c .before .answer .given .1)
 
-fault-requires : tie.Need-fault-requires
-fault-requires c κs = search needs
+check-requires : tie.Need-check-requires
+check-requires c κs = search needs
 
 admit-requires : tie.Need-admit-requires
 admit-requires c κs = search needs
@@ -85,7 +85,7 @@ pub add-module-spec : {M : Type 1} → statement M
 add-module-spec =
     tie.close
     (tie.spec
-    fault-requires
+    check-requires
     admit-requires
     enum-known-answer
     enum-told

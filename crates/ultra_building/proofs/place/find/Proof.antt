@@ -3,7 +3,7 @@
 use mathlib.Core.Path.{_≡_, sym, _∙_}
 use borrow.Author.Needs.{needs}
 use denote.Ref.{now}
-use Rattle.ultra_format.specs.declared.Answer.the-variants.{Done}
+use Rattle.refusals.specs.declared.Answer.the-variants.{Done}
 use Rattle.ultra_reading.specs.Reading.{usedLength}
 use Rattle.ultra_building.proofs.Placements.{unread, no-place, place-is}
 use Rattle.ultra_building.proofs.place.find.Statement.{statement}
@@ -25,17 +25,17 @@ returns c = unread _ _ _ _ _ _ (c .before .before .used-length .ensures) (c .enu
 was : (c : tie.After-known-told) → usedLength 0 (now (c .before .before .before .before .before .args .buf)) ≡ Done (c .before .answer .given .0 .0)
 was c = sym (c .before .before .before .used-length .ensures) ∙ c .before .answer .given .1
 
-fault-requires : tie.Need-fault-requires
-fault-requires c κs = (was c, c .before .before .before .before .before .pre)
+check-requires : tie.Need-check-requires
+check-requires c κs = (was c, c .before .before .before .before .before .pre)
 
 new-requires : tie.Need-new-requires
 new-requires c κs = search needs
 
 returns-2 : tie.Need-returns-2
-returns-2 c = no-place _ _ _ _ _ _ _ (was (c .before .before .before)) (c .before .before .fault .ensures) (c .before .if1 .taken) (c .new .ensures)
+returns-2 c = no-place _ _ _ _ _ _ _ (was (c .before .before .before)) (c .before .before .check .ensures) (c .before .if1 .taken) (c .new .ensures)
 
 returns-3 : tie.Need-returns-3
-returns-3 c = place-is _ _ _ _ _ _ (was (c .before .before)) (c .before .fault .ensures) (c .if1 .left)
+returns-3 c = place-is _ _ _ _ _ _ (was (c .before .before)) (c .before .check .ensures) (c .if1 .left)
 
 pub find-spec : {M : Type 1} → statement M
 find-spec =
@@ -45,7 +45,7 @@ find-spec =
     enum-known-answer
     enum-told
     returns
-    fault-requires
+    check-requires
     new-requires
     returns-2
     returns-3)

@@ -4,9 +4,10 @@ use mathlib.Core.Path.{_≡_, refl, sym, ap₂, _∙_}
 use native.Mathlib.Omega.{arith}
 use borrow.Author.Needs.{needs}
 use denote.Ref.{now}
-use Rattle.ultra_format.specs.Members.{every, rangeFits, entryFits}
+use Rattle.address_ranges.specs.Ranges.{rangeFits}
+use Rattle.ultra_format.specs.Members.{every, entryFits}
 use Rattle.ultra_format.specs.Decoding.{entryAt}
-use Rattle.ultra_members.proofs.Comparisons.{failed, held}
+use Rattle.words.proofs.Comparisons.{failed, held}
 use Rattle.ultra_members.proofs.Entries.{Rest, every-none, every-stop, every-rest}
 use Rattle.ultra_members.proofs.map.all_fit.Statement.{statement}
 use Rattle.ultra_members.proofs.map.all_fit.Tie as tie

@@ -6,9 +6,9 @@ use native.Mathlib.Omega.{arith}
 use borrow.Author.Needs.{needs}
 use lib.Dec.{leb}
 use denote.Ref.{now}
-use Rattle.ultra_format.specs.Members.{rangeFits}
+use Rattle.address_ranges.specs.Ranges.{rangeFits}
 use Rattle.ultra_members.specs.Sound.{sound}
-use Rattle.ultra_members.proofs.Comparisons.{failed, held}
+use Rattle.words.proofs.Comparisons.{failed, held}
 use Rattle.ultra_members.proofs.Entries.{Rest, endsBy}
 use Rattle.ultra_members.proofs.Sound.{sound-none, last-untyped, last-fits, sound-untyped, sound-overlap, sound-rest}
 use Rattle.ultra_members.proofs.map.all_sound.Statement.{statement}

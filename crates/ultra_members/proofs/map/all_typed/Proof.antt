@@ -4,7 +4,7 @@ use mathlib.Core.Path.{refl, sym, _∙_}
 use native.Mathlib.Omega.{arith}
 use borrow.Author.Needs.{needs}
 use Rattle.ultra_format.specs.Members.{every, entryTyped}
-use Rattle.ultra_members.proofs.Comparisons.{failed, held}
+use Rattle.words.proofs.Comparisons.{failed, held}
 use Rattle.ultra_members.proofs.Entries.{Rest, every-none, every-stop, every-rest}
 use Rattle.ultra_members.proofs.map.all_typed.Statement.{statement}
 use Rattle.ultra_members.proofs.map.all_typed.Tie as tie

@@ -1,4 +1,4 @@
--- `ultra_members::map::typed` meets its contract: the type is what stands 16 bytes behind the entry's start.
+-- `ultra_members::map::typed` meets its contract: the type is what stands 16 bytes after the entry's start.
 -- Assumes nothing.
 use mathlib.Core.Path.{ap}
 use Rattle.ultra_format.specs.Members.{nonzero}

@@ -3,7 +3,7 @@
 use native.Mathlib.Omega.{arith}
 use borrow.Author.Needs.{needs}
 use Rattle.ultra_format.specs.Members.{framebufferValues}
-use Rattle.ultra_members.proofs.Comparisons.{failed, held}
+use Rattle.words.proofs.Comparisons.{failed, held}
 use Rattle.ultra_members.proofs.Products.{below}
 use Rattle.ultra_members.proofs.values.framebuffer.Statement.{statement}
 use Rattle.ultra_members.proofs.values.framebuffer.Tie as tie

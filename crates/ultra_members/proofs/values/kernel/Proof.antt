@@ -3,7 +3,7 @@
 use borrow.Author.Needs.{needs}
 use borrow.Author.Tests.{eq-eqb, ne-eqb}
 use Rattle.ultra_format.specs.Members.{kernelValues}
-use Rattle.ultra_members.proofs.Comparisons.{failed, held}
+use Rattle.words.proofs.Comparisons.{failed, held}
 use Rattle.ultra_members.proofs.values.kernel.Statement.{statement}
 use Rattle.ultra_members.proofs.values.kernel.Tie as tie
 

@@ -38,7 +38,7 @@ returns c =
 cast-load-u32 : tie.Need-cast-load-u32
 cast-load-u32 c = search needs
 
--- behind the `let .. else` there is such an attribute, at `start`
+-- after the `let .. else` there is such an attribute, at `start`
 said : (c : tie.After-known-told) → StartIs (now (c .before .before .before .before .before .args .buf)) (c .before .before .before .before .before .args .index) (c .before .answer .given .0 .0)
 said c =
     let u = c .before .before .before in

@@ -3,7 +3,7 @@
 use mathlib.Core.Path.{sym, ap, _∙_}
 use native.Mathlib.Omega.{arith}
 use denote.Ref.{now}
-use Rattle.ultra_format.specs.declared.Answer.the-variants.{Done, Refused}
+use Rattle.refusals.specs.declared.Answer.the-variants.{Done, Refused}
 use Rattle.ultra_questions.specs.Passing.{Accepts}
 use Rattle.ultra_questions.proofs.Located.{head-inside}
 use Rattle.ultra_questions.proofs.AttributeLaws.{start-passed, start-past, start-found}
@@ -27,7 +27,7 @@ returns c =
     let e = c .enum-told .given .1 in
     e ∙ start-passed (now (s .buf)) (s .index) (sym (u .used-length .ensures) ∙ e)
 
--- behind the `let .. else`, reading has accepted the buffer
+-- after the `let .. else`, reading has accepted the buffer
 abbrev accepts : (c : tie.After-known-told) → Accepts (now (c .before .before .before .before .before .args .buf))
 accepts c = let u = c .before .before .before in (_, sym (u .used-length .ensures) ∙ c .before .answer .given .1)
 

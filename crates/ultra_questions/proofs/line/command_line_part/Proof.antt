@@ -35,7 +35,7 @@ returns c =
     let u = t .before .before in
     c .none .ensures ∙ line-passed (now (u .before .before .args .buf)) (sym (u .used-length .ensures) ∙ t .enum-told2 .given .1)
 
--- behind the `let .. else`, reading has accepted the buffer
+-- after the `let .. else`, reading has accepted the buffer
 abbrev accepts : (c : tie.After-enum-told) → Accepts (now (c .before .before .before .before .args .buf))
 accepts c = let u = c .before .before in (_, sym (u .used-length .ensures) ∙ c .enum-told .given .1)
 

@@ -8,8 +8,8 @@ use denote.Ref.{now}
 use lib.ListN.{length}
 use Rattle.words.specs.Words.{numbersAt}
 use Rattle.byte_layout.specs.Stored.{over}
-use Rattle.ultra_format.specs.declared.Answer.{Answer}
-use Rattle.ultra_format.specs.declared.Answer.the-variants.{Done}
+use Rattle.refusals.specs.declared.Answer.{Answer}
+use Rattle.refusals.specs.declared.Answer.the-variants.{Done}
 use Rattle.ultra_questions.proofs.MapLaws.{MapAt, place-refused, place-said}
 use borrow.Author.Needs.{needs}
 use Rattle.ultra_questions.proofs.map.copy_map.Statement.{statement}
@@ -31,7 +31,7 @@ returns c =
     let e = c .enum-told .given .1 in
     ap (λ (r : Answer). (r, now (s .out))) e ∙ sym (place-refused (now (s .buf)) (now (s .out)) _ (sym (p .place .ensures) ∙ e))
 
--- behind the `let .. else` there is a map, at `start`, and `out` is long enough for it
+-- after the `let .. else` there is a map, at `start`, and `out` is long enough for it
 map : (c : tie.After-known-told) → MapAt (now (c .before .before .before .before .before .before .args .buf)) (length (now (c .before .before .before .before .before .before .args .out))) (c .before .answer .given .0 .0)
 map c = place-said _ _ _ (sym (c .before .before .before .place .ensures) ∙ c .before .answer .given .1)
 

@@ -4,7 +4,7 @@ use mathlib.Core.Path.{_≡_, sym, ap, _∙_}
 use native.Mathlib.Omega.{arith}
 use denote.Ref.{now}
 use Rattle.ultra_format.specs.Decoding.{start, storedCount, contextOf}
-use Rattle.ultra_format.specs.declared.Answer.the-variants.{Done, Refused}
+use Rattle.refusals.specs.declared.Answer.the-variants.{Done, Refused}
 use Rattle.ultra_questions.specs.Passing.{Accepts}
 use Rattle.ultra_questions.specs.Searching.{firstIn, foundStart, ofType}
 use Rattle.ultra_questions.specs.MapQuestion.{entriesStored}
@@ -30,7 +30,7 @@ returns c =
     let e = c .enum-told .given .1 in
     e ∙ place-passed _ _ (sym (u .used-length .ensures) ∙ e)
 
--- behind the `let .. else`, reading has accepted the buffer
+-- after the `let .. else`, reading has accepted the buffer
 abbrev accepts : (c : tie.After-known-told) → Accepts (now (c .before .before .before .before .before .args .buf))
 accepts c = let u = c .before .before .before in (_, sym (u .used-length .ensures) ∙ c .before .answer .given .1)
 

@@ -5,7 +5,7 @@ use mathlib.Core.Path.{sym, ap₂, _∙_}
 use native.Mathlib.Omega.{arith}
 use denote.Ref.{now}
 use Rattle.ultra_format.proofs.Sizes.{module-least}
-use Rattle.ultra_questions.specs.ModuleQuestion.{covers}
+use Rattle.address_ranges.specs.Ranges.{covers}
 use Rattle.ultra_questions.proofs.BodyLaws.{no-module, is-module}
 use borrow.Author.Needs.{needs}
 use Rattle.ultra_questions.proofs.module.holds.Statement.{statement}

@@ -2,7 +2,7 @@
 -- Assumes nothing.
 use mathlib.Core.Path.{sym, ap, _∙_}
 use denote.Ref.{now}
-use Rattle.ultra_format.specs.declared.Answer.the-variants.{Done}
+use Rattle.refusals.specs.declared.Answer.the-variants.{Done}
 use Rattle.ultra_questions.specs.Passing.{Accepts}
 use Rattle.ultra_questions.proofs.ModuleLaws.{module-passed, module-read}
 use borrow.Author.Needs.{needs}
@@ -25,7 +25,7 @@ returns c =
     let e = c .enum-told2 .given .1 in
     e ∙ module-passed (now (s .buf)) (s .address) (sym (u .used-length .ensures) ∙ e)
 
--- behind the `let .. else`, reading has accepted the buffer
+-- after the `let .. else`, reading has accepted the buffer
 abbrev accepts : (c : tie.After-enum-told) → Accepts (now (c .before .before .before .before .args .buf))
 accepts c = let u = c .before .before in (_, sym (u .used-length .ensures) ∙ c .enum-told .given .1)
 

@@ -1,4 +1,4 @@
--- `ultra_reading::walk::attributes` meets its contract. The invariant: `at` is where attribute `i` starts, none before it has a fault,
+-- `ultra_reading::walk::attributes` meets its contract. The invariant: `at` is where attribute `i` starts, none before it breaks a rule,
 -- and the answer from it on is the answer from the first on.
 -- Assumes nothing.
 use Prim.Native.Nat.{_-_, _≤_}
@@ -10,7 +10,7 @@ use borrow.Author.Count.{below-none, below-more}
 use denote.Ref.{now}
 use Rattle.ultra_format.specs.Places.{nearest}
 use Rattle.ultra_format.specs.Decoding.{start, storedSize, typesBefore}
-use Rattle.ultra_reading.specs.Reading.{faultOf, Clear, highestOf, attributesAnswer}
+use Rattle.ultra_reading.specs.Reading.{checkOf, Clear, highestOf, attributesAnswer}
 use Rattle.ultra_reading.proofs.BoundsLaws.{BoundsHold}
 use Rattle.ultra_reading.proofs.WalkLaws.{attribute-bounds, start-next, nearest-next, highest-next, walk-refuse, walk-next, walk-end}
 use Rattle.ultra_reading.proofs.walk.attributes.Statement.{statement}
@@ -24,8 +24,8 @@ Inv-loop buf room count at₀ previous₀ highest₀ i₀ at previous highest i 
 abbrev μ-loop : tie.MeasureT-loop
 μ-loop buf room count at₀ previous₀ highest₀ i₀ at previous highest i = count - i
 
--- attribute `i` has no fault, where the test says so
-fine : (c : tie.Else1 Inv-loop μ-loop) → faultOf (now (c .before .before .before .before .before .args .buf)) (c .before .before .before .before .before .args .room) (c .before .before .before .loop .i) ≡ 0
+-- attribute `i` breaks no rule, where the test says so
+fine : (c : tie.Else1 Inv-loop μ-loop) → checkOf (now (c .before .before .before .before .before .args .buf)) (c .before .before .before .before .before .args .room) (c .before .before .before .loop .i) ≡ 0
 fine c = cc
 
 here : (c : tie.Else1 Inv-loop μ-loop)
@@ -36,14 +36,14 @@ loop-holds : tie.Need-loop-holds Inv-loop μ-loop
 unfolding start typesBefore highestOf
 loop-holds c = (refl, refl, refl, search needs, search needs, below-none _, rw sub-zero)
 
-fault-requires : tie.Need-fault-requires Inv-loop μ-loop
-fault-requires c κs = ((search needs, search needs), (c .before .loop .inv .5, (search needs, search needs)))
+check-requires : tie.Need-check-requires Inv-loop μ-loop
+check-requires c κs = ((search needs, search needs), (c .before .loop .inv .5, (search needs, search needs)))
 
-cast-new : tie.Need-cast-new Inv-loop μ-loop
-cast-new c = search needs
+cast-at : tie.Need-cast-at Inv-loop μ-loop
+cast-at c = search needs
 
-new-requires : tie.Need-new-requires Inv-loop μ-loop
-new-requires c κs = search needs
+at-requires : tie.Need-at-requires Inv-loop μ-loop
+at-requires c κs = search needs
 
 returns : tie.Need-returns Inv-loop μ-loop
 returns c =
@@ -62,8 +62,8 @@ add-load-u32 c = omega (arith, here (c .before .before))
 load-u32-requires-2 : tie.Need-load-u32-requires-2 Inv-loop μ-loop
 load-u32-requires-2 c κs = omega (arith, here (c .before .before))
 
-cast-at : tie.Need-cast-at Inv-loop μ-loop
-cast-at c = search needs
+cast-at-2 : tie.Need-cast-at-2 Inv-loop μ-loop
+cast-at-2 c = search needs
 
 add-at : tie.Need-add-at Inv-loop μ-loop
 add-at c = omega (arith, here (c .before .before .before))
@@ -106,15 +106,15 @@ attributes-spec =
     Inv-loop
     μ-loop
     loop-holds
-    fault-requires
-    cast-new
-    new-requires
+    check-requires
+    cast-at
+    at-requires
     returns
     load-u32-requires
     higher-requires
     add-load-u32
     load-u32-requires-2
-    cast-at
+    cast-at-2
     add-at
     add-i
     loop-less

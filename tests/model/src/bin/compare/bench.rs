@@ -49,7 +49,7 @@ impl Bench {
         self.changed = false;
         if self.verbose {
             eprintln!("buffer {:?}", start.buffer);
-            eprintln!("behind it [{}]", hex(&start.beyond));
+            eprintln!("after it [{}]", hex(&start.beyond));
         }
         self.start = start;
     }
@@ -260,7 +260,7 @@ fn differing(what: &str, lent: &Lent, model: &[u8]) -> Option<String> {
         ));
     }
     if !lent.guards_hold() {
-        return Some(format!("bytes before or behind {what} were changed"));
+        return Some(format!("bytes before or after {what} were changed"));
     }
     None
 }

@@ -15,7 +15,7 @@ pub struct Lent {
     length: usize,
     null: bool,
     before: [u8; GUARD],
-    behind: [u8; GUARD],
+    after: [u8; GUARD],
 }
 
 impl Lent {
@@ -26,11 +26,11 @@ impl Lent {
             length: 0,
             null: true,
             before: [0; GUARD],
-            behind: [0; GUARD],
+            after: [0; GUARD],
         }
     }
 
-    /// Lends a copy of what is given. The guard behind begins with `beyond`: what a reader
+    /// Lends a copy of what is given. The guard after begins with `beyond`: what a reader
     /// that goes too far would like to find.
     pub fn load(&mut self, given: &Given, beyond: &[u8]) {
         self.length = given.bytes.len();
@@ -44,14 +44,14 @@ impl Lent {
 
         let pattern = [0x00, 0x41, 0xF3, 0x2F][given.shift & 3];
         self.before.fill(pattern);
-        self.behind.fill(pattern);
+        self.after.fill(pattern);
         let known = beyond.len().min(GUARD);
-        self.behind[..known].copy_from_slice(&beyond[..known]);
+        self.after[..known].copy_from_slice(&beyond[..known]);
 
         let (start, end) = (self.start, self.start + self.length);
         self.memory[start - GUARD..start].copy_from_slice(&self.before);
         self.memory[start..end].copy_from_slice(&given.bytes);
-        self.memory[end..end + GUARD].copy_from_slice(&self.behind);
+        self.memory[end..end + GUARD].copy_from_slice(&self.after);
     }
 
     /// Puts other bytes of the same length in place.
@@ -77,6 +77,6 @@ impl Lent {
     pub fn guards_hold(&self) -> bool {
         let end = self.start + self.length;
         self.memory[self.start - GUARD..self.start] == self.before
-            && self.memory[end..end + GUARD] == self.behind
+            && self.memory[end..end + GUARD] == self.after
     }
 }

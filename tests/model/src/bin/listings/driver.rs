@@ -158,12 +158,12 @@ fn show(line: &[u8], at: usize) -> String {
     let from = at.saturating_sub(SHOWN_BEFORE).min(line.len());
     let part = &line[from..line.len().min(from + SHOWN)];
     let before = if from > 0 { ".. " } else { "" };
-    let behind = if from + part.len() < line.len() {
+    let after = if from + part.len() < line.len() {
         " .."
     } else {
         ""
     };
-    format!("{before}\"{}\"{behind}", part.escape_ascii())
+    format!("{before}\"{}\"{after}", part.escape_ascii())
 }
 
 fn report(seed: u64, difference: &Difference) {

@@ -27,8 +27,8 @@ pub fn context(rng: &mut Rng) -> Vec<u8> {
     fill(&mut layout);
     layout.recount();
     let mut bytes = layout.bytes();
-    let behind = rng.pick(&[0, 0, 0, 1, 5_000, 100_000]);
-    bytes.extend(rng.bytes(behind));
+    let after = rng.pick(&[0, 0, 0, 1, 5_000, 100_000]);
+    bytes.extend(rng.bytes(after));
     bytes
 }
 

@@ -83,12 +83,12 @@ fn feed(rng: &mut Rng, length: usize) -> Feed {
     }
 }
 
-/// A context with so much behind it that the room ends there.
+/// A context with so much after it that the room ends there.
 fn long(rng: &mut Rng) -> Vec<u8> {
     let foreign = rng.chance(50);
     let mut bytes = contexts::valid(rng, foreign).buffer.bytes;
-    let behind = contexts::ROOM + rng.pick(&[0, 1, 4_096, 65_536, 500_000]);
-    bytes.extend(rng.bytes(behind));
+    let after = contexts::ROOM + rng.pick(&[0, 1, 4_096, 65_536, 500_000]);
+    bytes.extend(rng.bytes(after));
     bytes
 }
 

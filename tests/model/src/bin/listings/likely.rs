@@ -27,8 +27,8 @@ pub fn context(rng: &mut Rng) -> Vec<u8> {
         layout.make_foreign(rng);
     }
     let mut bytes = layout.bytes();
-    let behind = rng.below(2) * rng.below(200);
-    bytes.extend(rng.bytes(behind));
+    let after = rng.below(2) * rng.below(200);
+    bytes.extend(rng.bytes(after));
     bytes
 }
 

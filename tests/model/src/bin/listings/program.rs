@@ -70,8 +70,8 @@ fn write(mut pipe: ChildStdin, input: &Input) {
     let mut rest = &input.bytes[..];
     if let Feed::Pieces(ends) = input.feed {
         for (end, pause) in ends.into_iter().zip(PAUSES) {
-            let (piece, behind) = rest.split_at(end + rest.len() - input.bytes.len());
-            rest = behind;
+            let (piece, after) = rest.split_at(end + rest.len() - input.bytes.len());
+            rest = after;
             let _ = pipe.write_all(piece).and_then(|()| pipe.flush());
             thread::sleep(pause);
         }

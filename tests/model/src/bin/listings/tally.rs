@@ -50,7 +50,7 @@ const FROM_FILE: &str = "input from a file";
 const UNREADABLE: &str = "input that cannot be read";
 const PAST_ROOM: &str = "input longer than the room";
 const ACCEPTED_PAST_ROOM: &str = "accepted input longer than the room";
-const BEHIND_USED: &str = "bytes behind the used length";
+const AFTER_USED: &str = "bytes after the used length";
 const FULL_ROOM: &str = "context that fills the room";
 const MOST_ATTRIBUTES: &str = "context of 1,024 attributes";
 const EMPTY_MAP: &str = "empty map";
@@ -65,7 +65,7 @@ const SHAPES: [&str; 12] = [
     UNREADABLE,
     PAST_ROOM,
     ACCEPTED_PAST_ROOM,
-    BEHIND_USED,
+    AFTER_USED,
     FULL_ROOM,
     MOST_ATTRIBUTES,
     EMPTY_MAP,
@@ -129,7 +129,7 @@ impl Tally {
         }
         self.met_if(&format!("empty {key}"), value.is_empty());
         self.met_if(FULL_ROOM, (key, value) == ("used", "65536"));
-        self.met_if(BEHIND_USED, key == "used" && value != length.to_string());
+        self.met_if(AFTER_USED, key == "used" && value != length.to_string());
         self.met_if(MOST_ATTRIBUTES, (key, value) == ("attributes", "1024"));
         self.met_if(EMPTY_MAP, (key, value) == ("map", "0"));
         if let ("refused", Some((number, _))) = (key, value.split_once(',')) {

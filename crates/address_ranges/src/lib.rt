@@ -1,0 +1,39 @@
+// Addresses and ranges of them, judged in whole numbers without forming a sum that could wrap.
+ghost use mathlib.Core.Path.{_≡_};
+ghost use Rattle.address_ranges.specs.Ranges.{pageAligned, rangeFits, endsBy, covers};
+
+pub fn page_aligned(number: u64) -> bool
+    ensures { λ r. ⌜ r ≡ pageAligned number ⌝ }
+{
+    number % 4096 == 0
+}
+
+// Whether the range ends at 2^64 or below.
+pub fn fits(address: u64, size: u64) -> bool
+    ensures { λ r. ⌜ r ≡ rangeFits address size ⌝ }
+{
+    if size == 0 {
+        return true;
+    }
+    size - 1 <= 18446744073709551615 - address
+}
+
+// Whether `next` is at or past the end of the range.
+pub fn ends_by(address: u64, size: u64, next: u64) -> bool
+    ensures { λ r. ⌜ r ≡ endsBy address size next ⌝ }
+{
+    if next < address {
+        return false;
+    }
+    size <= next - address
+}
+
+// Whether `size` bytes from `start` on cover `address`.
+pub fn covers(start: u64, size: u64, address: u64) -> bool
+    ensures { λ r. ⌜ r ≡ covers start size address ⌝ }
+{
+    if address < start {
+        return false;
+    }
+    address - start < size
+}

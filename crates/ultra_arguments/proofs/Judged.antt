@@ -1,0 +1,39 @@
+-- What the five tests make is the number of the members; and the tests of a command line's and a map's form.
+-- Assumes nothing.
+use Prim.Native.Nat.{ℕ, _+_, _-_, _*_, _%_}
+use mathlib.Core.Path.{_≡_, refl, _∙_}
+use mathlib.Core.Bool.{Bool, true, false}
+use mathlib.Core.List.{List}
+use native.Mathlib.Omega.{arith}
+use borrow.Author.Tests.{lt-ltb, le-leb, eq-eqb}
+use lib.ListN.{length}
+use lib.Dec.{leb, eqb}
+use Rattle.refusals.specs.Refusals.{unless, FORM}
+use Rattle.ultra_format.specs.Members.{sizeSuits, values, every, ascii, asciiText, texts, ranges, ordered, memberCheck, bodyCheck}
+use Rattle.ultra_format.specs.Contexts.{Entry, Body}
+use Rattle.ultra_format.specs.Plain.{roundedUp, writtenSize}
+use Rattle.ultra_format.specs.Additions.{entriesGiven, givenCheck}
+
+form-first : (f v t r o : Bool) → memberCheck f v t r o ≡ unless f FORM (memberCheck true v t r o)
+form-first true v t r o = refl
+form-first false v t r o = refl
+
+-- the five tests, each an answer to its rule, are the number of members that suit the size they are written with
+pub judged : (f : Bool) (x : Body) {v t r o : Bool} → sizeSuits (writtenSize x) x ≡ true → v ≡ values x → t ≡ texts (writtenSize x) x → r ≡ ranges x
+    → o ≡ ordered x → memberCheck f v t r o ≡ givenCheck f x
+unfolding givenCheck bodyCheck
+judged f x form value text range order =
+    (λ i. memberCheck f (value i) (text i) (range i) (order i)) ∙ form-first f (values x) (texts (writtenSize x) x) (ranges x) (ordered x)
+    ∙ rw form
+
+-- a command line is written in 16 bytes at least, and shorter than its field
+pub line-form : (t : List ℕ) → leb 16 (8 + roundedUp (length t + 1)) ≡ true
+line-form t = le-leb 16 (8 + roundedUp (length t + 1)) (omega arith)
+
+pub line-text : (t : List ℕ) → every ascii t ≡ asciiText (8 + roundedUp (length t + 1) - 8) t
+unfolding asciiText
+line-text t = rw (lt-ltb (length t) (8 + roundedUp (length t + 1) - 8) (omega arith))
+
+-- a map fills its size
+pub map-form : (es : List Entry) → eqb (8 + 24 * length es) (8 + 24 * length es) ≡ true
+map-form es = eq-eqb (8 + 24 * length es) (8 + 24 * length es) refl

@@ -1,0 +1,70 @@
+-- `ultra_arguments::map::all_typed` meets its contract. The invariant: all entries have a type if and only if those left have.
+-- Assumes nothing.
+use mathlib.Core.Path.{refl, sym, ap, _∙_}
+use native.Mathlib.Omega.{arith}
+use borrow.Author.Needs.{needs}
+use Rattle.ultra_format.specs.Members.{nonzero, every, entryTyped}
+use Rattle.ultra_members.proofs.Zero.{not-zero}
+use Rattle.ultra_arguments.proofs.Every.{none-left, first-fails, first-passes}
+use Rattle.ultra_arguments.proofs.Numbers.{Rest, entry-none, entry-next}
+use Rattle.ultra_arguments.proofs.map.all_typed.Statement.{statement}
+use Rattle.ultra_arguments.proofs.map.all_typed.Tie as tie
+
+abbrev Inv-loop : tie.InvT-loop
+Inv-loop numbers entry₀ left₀ entry left = Rest (every entryTyped) numbers entry left
+
+abbrev μ-loop : tie.MeasureT-loop
+μ-loop numbers entry₀ left₀ entry left = left
+
+loop-holds : tie.Need-loop-holds Inv-loop μ-loop
+loop-holds c = (search needs, refl)
+
+add-if1 : tie.Need-add-if1 Inv-loop μ-loop
+add-if1 c = search needs
+
+mul-if1 : tie.Need-mul-if1 Inv-loop μ-loop
+mul-if1 c = search needs
+
+shared-slice-read-if1 : tie.Need-shared-slice-read-if1 Inv-loop μ-loop
+shared-slice-read-if1 c = search needs
+
+returns : tie.Need-returns Inv-loop μ-loop
+returns c =
+    let d = c .before .before in
+    let i = d .before .loop .inv in
+    sym (i .1 ∙ first-fails entryTyped (entry-next _ _ _ (i .0) (d .loop-test .taken)) (ap nonzero (c .if1 .taken)))
+
+add-entry : tie.Need-add-entry Inv-loop μ-loop
+add-entry c = search needs
+
+sub-left : tie.Need-sub-left Inv-loop μ-loop
+sub-left c = search needs
+
+loop-less : tie.Need-loop-less Inv-loop μ-loop
+loop-less c = search needs
+
+loop-again : tie.Need-loop-again Inv-loop μ-loop
+loop-again c =
+    let d = c .before .before in
+    let i = d .before .loop .inv in
+    (omega arith, i .1 ∙ first-passes entryTyped (entry-next _ _ _ (i .0) (d .loop-test .taken)) (not-zero refl (c .if1 .left)))
+
+returns-2 : tie.Need-returns-2 Inv-loop μ-loop
+returns-2 c = let i = c .before .loop .inv in sym (i .1 ∙ none-left entryTyped (entry-none _ _ _ (i .0) (omega arith)))
+
+pub all-typed-spec : {M : Type 1} → statement M
+all-typed-spec =
+    tie.close
+    (tie.spec
+    Inv-loop
+    μ-loop
+    loop-holds
+    add-if1
+    mul-if1
+    shared-slice-read-if1
+    returns
+    add-entry
+    sub-left
+    loop-less
+    loop-again
+    returns-2)
