@@ -12,9 +12,11 @@ Published are the calls of the tables below "Calls from C" and "Calls from Rattl
                 of a call whose contract was weakened, or cites another one, they would say nothing.
     its row     The first name in the last cell is that definition, without what crosses it toward C.
 
-Demand 2 runs a call by the equation of `run` (crates/demand_2/specs/Calls.antt) for the case of `Call` whose comment names it, and a call
-toward C by the equation of `runFromC` (CallsFromC.antt) for the case of `CallFromC` with its name. Every case stands for published calls, and
-one case for every published call but `Cursor::first`, which takes no buffer. Every exported function of crate ultra is published.
+Demand 2 runs a call that writes by the equation of `runWrite` (crates/demand_2/specs/Calls.antt) for the case of `Write` whose comment names
+it, a question by that of `replyOf` for the case of `Question`, and a call toward C by that of `runWriteFromC` or `replyFromC` (CallsFromC.antt)
+for the case of `WriteFromC` or `QuestionFromC` with its name. `run` and `runFromC` are these, and leave the buffer of a question as it is.
+Every case stands for published calls, and one case for every published call but `Cursor::first`, which takes no buffer. Every exported function
+of crate ultra is published.
 Exit status 1, with a line for each problem.
 """
 import collections
@@ -29,9 +31,15 @@ WITHOUT_BUFFER = {"Cursor::first": ("cursorAt 0 8", {"cursorAt": "Rattle.ultra_
 RELATIONS = {"≡": ("_≡_", "mathlib.Core.Path._≡_"), "PartOf": ("PartOf", "Rattle.ultra_questions.specs.Parts.PartOf")}
 # What stands around the definition that README.md names.
 AROUND = {"answerCrossed", "stepCrossed", "readingCrossed", "partCrossed", "crossed", "length"}
-# What `run` and `runFromC` make of a term: both halves of its pair, or the place and the bytes of a part.
+# What the cases of each kind are run by.
+WRITERS = {"Write": "runWrite", "WriteFromC": "runWriteFromC"}
+ASKERS = {"Question": "replyOf", "QuestionFromC": "replyFromC"}
+# What they make of a term: both halves of its pair, or the place and the bytes of a part.
 WRITES = {"answerAnd r": "(answer (r .0), r .1)", "numberAnd r": "(number (r .0), r .1)"}
 LENDS = {"lentPart b p": "lent p (bytesAt b (p .start) (p .length))"}
+# What a call is made of.
+KINDS = {"run (write w) b": "runWrite w b", "run (ask q) b": "(replyOf q b, b)",
+         "runFromC (writeFromC w) b": "runWriteFromC w b", "runFromC (askFromC q) b": "(replyFromC q b, b)"}
 
 Call = collections.namedtuple("Call", "path file cell")
 Function = collections.namedtuple("Function", "parameters lent clauses imports")
@@ -369,25 +377,22 @@ def equation_of(case):
 
 def run_by(case, buffer, right, replies):
     """(form, term) of the right side that runs a case."""
-    reply, *after = divided(right, ",")
-    if not after and len(reply) == 2 and f"{reply[0]} r" in WRITES:
-        return "writes", reply[1]
-    if len(after) != 1 or isinstance(reply, str):
-        raise Unreadable(f"{place_of(case)}`{shown(right)}`, expected `answerAnd (..)`, `numberAnd (..)` or `(.. (..), {buffer})`")
-    if after[0] != buffer:
-        raise Unreadable(f"{place_of(case)}the buffer afterwards is `{shown(after[0])}`, expected `{buffer}`")
-    if len(reply) == 3 and reply[:2] == ("lentPart", buffer):
-        return "part", reply[2]
-    if len(reply) == 2 and reply[0] in replies:
-        return "reads", reply[1]
-    raise Unreadable(f"{place_of(case)}the reply `{shown(reply)}`, expected a case of Reply or `lentPart {buffer}`, with one term")
+    if case.runner in WRITERS.values():
+        if len(right) == 2 and f"{right[0]} r" in WRITES:
+            return "writes", right[1]
+        raise Unreadable(f"{place_of(case)}`{shown(right)}`, expected `answerAnd (..)` or `numberAnd (..)`")
+    if len(right) == 3 and right[:2] == ("lentPart", buffer):
+        return "part", right[2]
+    if len(right) == 2 and right[0] in replies:
+        return "reads", right[1]
+    raise Unreadable(f"{place_of(case)}the reply `{shown(right)}`, expected a case of Reply or `lentPart {buffer}`, with one term")
 
 
 def gathering(case, name):
     """The constructor that a function's parameters are gathered by where the case takes one thing, or None."""
-    if case.type == "Addition → Call":
+    if case.type == "Addition → Write":
         return "Addition." + camel(name)
-    if case.type == "Members → Call":
+    if case.type == "Members → Write":
         return camel(name.removeprefix("add_")) + "Members"
     return None
 
@@ -464,10 +469,13 @@ def case_problems(stands, paths):
 
 def handing_problems(*specs):
     """What hands a term's value on, where it is another definition than the one that is relied on."""
-    for left, right in {**WRITES, **LENDS}.items():
-        found = [(sides[0], " ".join(sides[1].split())) for spec in specs for sides in equations(spec, left.split()[0])]
-        if found != [(parsed(left), right)]:
-            yield f"demand_2: `{'`, `'.join(f'{shown(a)} = {b}' for a, b in found)}`, expected `{left} = {right}`"
+    expected = {}
+    for left, right in {**WRITES, **LENDS, **KINDS}.items():
+        expected.setdefault(left.split()[0], []).append(f"{left} = {right}")
+    for name, wanted in expected.items():
+        found = [f"{shown(left)} = {' '.join(right.split())}" for spec in specs for left, right in equations(spec, name)]
+        if found != wanted:
+            yield f"demand_2: `{'`, `'.join(found)}`, expected `{'`, `'.join(wanted)}`"
 
 
 def gathered_problems(stands, additions, members):
@@ -481,8 +489,12 @@ def gathered_problems(stands, additions, members):
 
 def all_problems(root, calls):
     spec, spec_from_c = spec_of(root, CALLS), spec_of(root, CALLS_FROM_C)
-    stands = cases(spec, "Call", "run")
-    stands += [case._replace(calls=[snake(case.name)]) for case in cases(spec_from_c, "CallFromC", "runFromC")]
+    stands = []
+    for data, runner in {**WRITERS, **ASKERS}.items():
+        if data.endswith("FromC"):
+            stands += [case._replace(calls=[snake(case.name)]) for case in cases(spec_from_c, data, runner)]
+        else:
+            stands += cases(spec, data, runner)
     replies = {case.name for case in cases(spec, "Reply")}
     for call in calls:
         for told in call_problems(call, [case for case in stands if call.path in case.calls], replies):

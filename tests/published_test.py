@@ -68,21 +68,27 @@ abbrev pub membersBody : Members → Body
 membersBody (lineMembers text) = lineOf text
 membersBody (moduleMembers kind name) = moduleOf kind name
 
-pub data Call : Type 0 where
+pub data Write : Type 0 where
   -- `making::begin`
-  begin : Call
+  begin : Write
   -- `making::add_module`, `add_line`
-  add : Addition → Call
+  add : Addition → Write
   -- `making::members::add_module`, `add_line`
-  addMembers : Members → Call
+  addMembers : Members → Write
+
+pub data Question : Type 0 where
   -- `Cursor::step`
-  step : Cursor → Call
+  step : Cursor → Question
   -- `asking::copy`
-  copy : List ℕ → Call
+  copy : List ℕ → Question
   -- `asking::part`
-  askPart : ℕ → Call
+  askPart : ℕ → Question
   -- `asking::size`
-  askSize : Call
+  askSize : Question
+
+pub data Call : Type 0 where
+  write : Write → Call
+  ask : Question → Call
 
 pub data Reply : Type 0 where
   answer : Answer → Reply
@@ -98,15 +104,21 @@ lentPart b p = lent p (bytesAt b (p .start) (p .length))
 abbrev pub answerAnd : Answer × List ℕ → Reply × List ℕ
 answerAnd r = (answer (r .0), r .1)
 
-unfoldable pub run : Call → List ℕ → Reply × List ℕ
-run begin b = answerAnd (begun b)
-run (add g) b = answerAnd (added b g)
-run (addMembers m) b = answerAnd (addedMembers b (membersFormed m) (membersBody m))
-run (step k) b = (stepped (stepOf b k), b)
-run (copy out) b =
-    (copied (copiedTo b out), b) -- over two lines
-run (askPart i) b = (lentPart b (looked b i .part), b)
-run askSize b = (number (length (listing b)), b)
+unfoldable pub runWrite : Write → List ℕ → Reply × List ℕ
+runWrite begin b = answerAnd (begun b)
+runWrite (add g) b = answerAnd (added b g)
+runWrite (addMembers m) b = answerAnd (addedMembers b (membersFormed m) (membersBody m))
+
+unfoldable pub replyOf : Question → List ℕ → Reply
+replyOf (step k) b = stepped (stepOf b k)
+replyOf (copy out) b =
+    copied (copiedTo b out) -- over two lines
+replyOf (askPart i) b = lentPart b (looked b i .part)
+replyOf askSize b = number (length (listing b))
+
+abbrev pub run : Call → List ℕ → Reply × List ℕ
+run (write w) b = runWrite w b
+run (ask q) b = (replyOf q b, b)
 """,
     FROM_C: """-- the calls toward C
 use mathlib.Core.Bool.{true}
@@ -115,16 +127,28 @@ use Rattle.asking.specs.Asking.{looked, place}
 use Rattle.making.specs.Making.{addedMembers}
 use Rattle.ultra.specs.Crossing.{answerCrossed, crossed}
 
+pub data WriteFromC : Type 0 where
+  ultraAddModule : (kind : ℕ) (name : List ℕ) → WriteFromC
+
+pub data QuestionFromC : Type 0 where
+  ultraLook : (index offset : ℕ) → QuestionFromC
+
 pub data CallFromC : Type 0 where
-  ultraLook : (index offset : ℕ) → CallFromC
-  ultraAddModule : (kind : ℕ) (name : List ℕ) → CallFromC
+  writeFromC : WriteFromC → CallFromC
+  askFromC : QuestionFromC → CallFromC
 
 abbrev pub numberAnd : ℕ × List ℕ → Reply × List ℕ
 numberAnd r = (number (r .0), r .1)
 
-unfoldable pub runFromC : CallFromC → List ℕ → Reply × List ℕ
-runFromC (ultraLook index offset) b = (number (answerCrossed (looked b (place index offset))), b)
-runFromC (ultraAddModule kind name) b = numberAnd (crossed (addedMembers b true (moduleOf kind name)))
+unfoldable pub runWriteFromC : WriteFromC → List ℕ → Reply × List ℕ
+runWriteFromC (ultraAddModule kind name) b = numberAnd (crossed (addedMembers b true (moduleOf kind name)))
+
+unfoldable pub replyFromC : QuestionFromC → List ℕ → Reply
+replyFromC (ultraLook index offset) b = number (answerCrossed (looked b (place index offset)))
+
+abbrev pub runFromC : CallFromC → List ℕ → Reply × List ℕ
+runFromC (writeFromC w) b = runWriteFromC w b
+runFromC (askFromC q) b = (replyFromC q b, b)
 """,
     ADDITIONS: """pub data Addition : Type 0 where
   addModule : ModuleRecord → Addition
@@ -294,9 +318,9 @@ class Contracts(Case):
 
     def test_another_definition(self):
         self.change(CURSOR, "r ≡ stepOf (now", "r ≡ lookOf (now")
-        self.told(f"Cursor::step, {CURSOR}: contract has `lookOf buf self`, expected `stepOf buf self` (run, {CALLS})")
+        self.told(f"Cursor::step, {CURSOR}: contract has `lookOf buf self`, expected `stepOf buf self` (replyOf, {CALLS})")
         self.change(ADDS, "Addition.addLine", "Addition.addModule")
-        self.told(f"making::add_line, {ADDS}: contract has `added buf (addModule text)`, expected `added buf (addLine text)` (run, {CALLS})")
+        self.told(f"making::add_line, {ADDS}: contract has `added buf (addModule text)`, expected `added buf (addLine text)` (runWrite, {CALLS})")
         self.change(CURSOR, "cursorAt 0 8", "cursorAt 8 8")
         self.told(f"Cursor::first, {CURSOR}: contract has `cursorAt 8 8`, expected `cursorAt 0 8` (document 01)")
 
@@ -309,7 +333,7 @@ class Contracts(Case):
 
     def test_the_buffer_afterwards(self):
         self.change(LIB, "begun (now (buf .entry))", "begun (now (buf .exit))")
-        self.told(f"making::begin, {LIB}: contract has `begun (now (buf .exit))`, expected `begun buf` (run, {CALLS})")
+        self.told(f"making::begin, {LIB}: contract has `begun (now (buf .exit))`, expected `begun buf` (runWrite, {CALLS})")
 
     def test_more_than_an_equation(self):
         for sign in "⊎∨×→≤∗":
@@ -325,30 +349,30 @@ class Contracts(Case):
     def test_parameters_exchanged(self):
         self.change(C, "place index offset", "place offset index")
         self.told(f"ultra_look, {C}: contract has `answerCrossed (looked buf (place offset index))`, "
-                  f"expected `answerCrossed (looked buf (place index offset))` (runFromC, {FROM_C})")
+                  f"expected `answerCrossed (looked buf (place index offset))` (replyFromC, {FROM_C})")
         self.change(C, "index: u32, offset: u32", "offset: u32, index: u32")
         self.told(f"ultra_look, {C}: contract has `answerCrossed (looked buf (place index offset))`, "
-                  f"expected `answerCrossed (looked buf (place offset index))` (runFromC, {FROM_C})")
+                  f"expected `answerCrossed (looked buf (place offset index))` (replyFromC, {FROM_C})")
         self.change(MEMBERS, "moduleOf sort (now (name .entry))", "moduleOf (now (name .entry)) sort")
         self.told(f"making::members::add_module, {MEMBERS}: contract has `addedMembers buf true (moduleOf name sort)`, "
-                  f"expected `addedMembers buf true (moduleOf sort name)` (run, {CALLS})")
+                  f"expected `addedMembers buf true (moduleOf sort name)` (runWrite, {CALLS})")
 
     def test_a_part(self):
         self.change(ASKING, "index .part)", "index)")
-        self.told(f"asking::part, {ASKING}: contract has `looked buf index`, expected `looked buf index .part` (run, {CALLS})")
+        self.told(f"asking::part, {ASKING}: contract has `looked buf index`, expected `looked buf index .part` (replyOf, {CALLS})")
         self.change(ASKING, "PartOf r (buf .entry) (looked (now (buf .entry)) index .part)", "r ≡ looked (now (buf .entry)) index .part")
         self.told(f"asking::part, {ASKING}: contract of the form `an equation that leaves buf as it is`, "
-                  f"expected `PartOf r (buf .entry) (..)` (run, {CALLS})")
+                  f"expected `PartOf r (buf .entry) (..)` (replyOf, {CALLS})")
 
 
 class Names(Case):
     def test_imported_from_elsewhere(self):
         self.change(LIB, "specs.Making.{begun}", "specs.Weak.{begun}")
-        self.told(f"making::begin, {LIB}: contract has Rattle.making.specs.Weak.begun, expected Rattle.making.specs.Making.begun (run, {CALLS})")
+        self.told(f"making::begin, {LIB}: contract has Rattle.making.specs.Weak.begun, expected Rattle.making.specs.Making.begun (runWrite, {CALLS})")
 
     def test_imported_under_another_name(self):
         self.change(LIB, "{begun}", "{kept as begun}")
-        self.told(f"making::begin, {LIB}: contract has Rattle.making.specs.Making.kept, expected Rattle.making.specs.Making.begun (run, {CALLS})")
+        self.told(f"making::begin, {LIB}: contract has Rattle.making.specs.Making.kept, expected Rattle.making.specs.Making.begun (runWrite, {CALLS})")
 
     def test_imported_twice_or_not(self):
         self.change(LIB, "{begun};", "{begun};\nghost use lib.Weak.{begun};")
@@ -372,7 +396,7 @@ class Names(Case):
 
     def test_the_heading(self):
         self.change(ASKING, "out: &mut [u8]", "out: &mut [u8], more: &mut [u8]")
-        self.change(CALLS, "run (copy out) b", "run (copy out more) b")
+        self.change(CALLS, "replyOf (copy out) b", "replyOf (copy out more) b")
         self.told(f"asking::copy, {ASKING}: parameters buf, out, more, expected one `&mut` at most, and none named r, now or PartOf")
         self.change(ASKING, "index: u64", "(index, more): (u64, u64)")
         self.told(f"asking::part, {ASKING}: a parameter `buf: &[u8], (index, more): (u64, u64)`, expected a name and a type, or self")
@@ -395,13 +419,13 @@ class Names(Case):
 
 class Demand2(Case):
     def test_a_case_that_is_not_run(self):
-        self.change(CALLS, "run (step k) b = (stepped (stepOf b k), b)\n", "")
-        self.told(f"Cursor::step, {CURSOR}: `run` of `step`, {CALLS}: 0 equations, expected one, of a call and a buffer")
+        self.change(CALLS, "replyOf (step k) b = stepped (stepOf b k)\n", "")
+        self.told(f"Cursor::step, {CURSOR}: `replyOf` of `step`, {CALLS}: 0 equations, expected one, of a call and a buffer")
 
     def test_an_equation_for_no_case(self):
-        self.change(CALLS, "run askSize b =", "run k b =")
-        self.told(f"asking::size, {ASKING}: `run` of `askSize`, {CALLS}: 0 equations, expected one, of a call and a buffer",
-                  f"{CALLS}: `run` has an equation for `k`, expected a case")
+        self.change(CALLS, "replyOf askSize b =", "replyOf k b =")
+        self.told(f"asking::size, {ASKING}: `replyOf` of `askSize`, {CALLS}: 0 equations, expected one, of a call and a buffer",
+                  f"{CALLS}: `replyOf` has an equation for `k`, expected a case")
 
     def test_a_call_that_no_case_names(self):
         self.change(CALLS, "`making::add_module`, `add_line`", "`making::add_module`")
@@ -413,41 +437,57 @@ class Demand2(Case):
         self.told(f"asking::size, {ASKING}: 2 cases of demand 2 name it, expected one")
 
     def test_a_case_for_no_published_call(self):
-        self.change(CALLS, "  askSize : Call\n", "  askSize : Call\n  askMore : Call\n")
+        self.change(CALLS, "  askSize : Question\n", "  askSize : Question\n  askMore : Question\n")
         self.told(f"{CALLS}: case `askMore` stands for no call, expected calls that README.md publishes")
         self.change(README, "| `asking::size(buf) -> u32` | the same | the length of `listing` |\n", "")
         self.told(f"{CALLS}: case `askSize` stands for asking::size, expected calls that README.md publishes")
-        self.change(FROM_C, "  ultraLook :", "  ultraMore : CallFromC\n  ultraLook :")
+        self.change(FROM_C, "  ultraLook :", "  ultraMore : QuestionFromC\n  ultraLook :")
         self.told(f"{FROM_C}: case `ultraMore` stands for ultra_more, expected calls that README.md publishes")
 
     def test_another_buffer_handed_back(self):
-        self.change(CALLS, "(stepped (stepOf b k), b)", "(stepped (stepOf b k), zeroed b)")
-        self.told(f"Cursor::step, {CURSOR}: `run` of `step`, {CALLS}: the buffer afterwards is `zeroed b`, expected `b`")
-        self.change(CALLS, "(stepped (stepOf b k), b)", "(stepped (stepOf b k), [])")
-        self.told(f"Cursor::step, {CURSOR}: `run` of `step`, {CALLS}: `[` in `(stepped (stepOf b k), [])`, expected names and parentheses alone")
+        written, kept = "run (write w) b = runWrite w b", "run (ask q) b = (replyOf q b, b)"
+        self.change(CALLS, "(replyOf q b, b)", "(replyOf q b, zeroed b)")
+        self.told(f"demand_2: `{written}`, `run (ask q) b = (replyOf q b, zeroed b)`, expected `{written}`, `{kept}`")
+        self.change(CALLS, "(replyOf q b, b)", "(replyOf q b, [])")
+        self.told(f"demand_2: `{written}`, `run (ask q) b = (replyOf q b, [])`, expected `{written}`, `{kept}`")
+        self.change(CALLS, "run (ask q) b", "run (ask read) b = (reading (looked b), [])\nrun (ask q) b")
+        self.told(f"demand_2: `{written}`, `run (ask read) b = (reading (looked b), [])`, `{kept}`, expected `{written}`, `{kept}`")
+        written, kept = "runFromC (writeFromC w) b = runWriteFromC w b", "runFromC (askFromC q) b = (replyFromC q b, b)"
+        self.change(FROM_C, written, "runFromC (writeFromC w) b = (runWriteFromC w b .0, b)")
+        self.told(f"demand_2: `runFromC (writeFromC w) b = (runWriteFromC w b .0, b)`, `{kept}`, expected `{written}`, `{kept}`")
 
     def test_writing_and_reading(self):
-        self.change(CALLS, "answerAnd (begun b)", "(copied (begun b), b)")
+        self.change(CALLS, "  -- `making::begin`\n  begin : Write\n", "")
+        self.change(CALLS, "runWrite begin b = answerAnd (begun b)\n", "")
+        self.change(CALLS, "  askSize : Question\n", "  askSize : Question\n  -- `making::begin`\n  begin : Question\n")
+        self.change(CALLS, "replyOf askSize b", "replyOf begin b = copied (begun b)\nreplyOf askSize b")
         self.told(f"making::begin, {LIB}: contract of the form `(r, now (buf .exit)) ≡ ..`, "
-                  f"expected `an equation that leaves buf as it is` (run, {CALLS})")
-        self.change(CALLS, "(copied (copiedTo b out), b)", "answerAnd (copiedTo b out)")
+                  f"expected `an equation that leaves buf as it is` (replyOf, {CALLS})")
+        self.change(CALLS, "  -- `asking::copy`\n  copy : List ℕ → Question\n", "")
+        self.change(CALLS, "replyOf (copy out) b =\n    copied (copiedTo b out) -- over two lines\n", "")
+        self.change(CALLS, "  begin : Write\n", "  begin : Write\n  -- `asking::copy`\n  copy : List ℕ → Write\n")
+        self.change(CALLS, "runWrite begin b", "runWrite (copy out) b = answerAnd (copiedTo b out)\nrunWrite begin b")
         self.told(f"asking::copy, {ASKING}: contract of the form `an equation that leaves buf as it is`, "
-                  f"expected `(r, now (buf .exit)) ≡ ..` (run, {CALLS})")
+                  f"expected `(r, now (buf .exit)) ≡ ..` (runWrite, {CALLS})")
 
     def test_what_hands_on(self):
-        self.change(CALLS, "(stepped (stepOf", "(constant (stepOf")
-        self.told(f"Cursor::step, {CURSOR}: `run` of `step`, {CALLS}: the reply `constant (stepOf b k)`, "
+        self.change(CALLS, "stepped (stepOf", "constant (stepOf")
+        self.told(f"Cursor::step, {CURSOR}: `replyOf` of `step`, {CALLS}: the reply `constant (stepOf b k)`, "
                   "expected a case of Reply or `lentPart b`, with one term")
         self.change(CALLS, "(answer (r .0), r .1)", "(answer (r .0), [])")
         self.told("demand_2: `answerAnd r = (answer (r .0), [])`, expected `answerAnd r = (answer (r .0), r .1)`")
 
     def test_what_cannot_be_read(self):
-        self.change(CALLS, "run askSize b = (number (length (listing b)), b)", "run askSize b = length (listing b)")
-        self.told(f"asking::size, {ASKING}: `run` of `askSize`, {CALLS}: `length (listing b)`, "
-                  "expected `answerAnd (..)`, `numberAnd (..)` or `(.. (..), b)`")
-        self.change(CALLS, "(number (length (listing b)), b)", "(number (length (listing b)), b, b)")
-        self.told(f"asking::size, {ASKING}: `run` of `askSize`, {CALLS}: `number (length (listing b)), b, b`, "
-                  "expected `answerAnd (..)`, `numberAnd (..)` or `(.. (..), b)`")
+        self.change(CALLS, "replyOf askSize b = number (length (listing b))", "replyOf askSize b = length (listing b)")
+        self.told(f"asking::size, {ASKING}: `replyOf` of `askSize`, {CALLS}: the reply `length (listing b)`, "
+                  "expected a case of Reply or `lentPart b`, with one term")
+        self.change(CALLS, "number (length (listing b))", "(number (length (listing b)), b)")
+        self.told(f"asking::size, {ASKING}: `replyOf` of `askSize`, {CALLS}: the reply `number (length (listing b)), b`, "
+                  "expected a case of Reply or `lentPart b`, with one term")
+        self.change(CALLS, "stepped (stepOf b k)", "[]")
+        self.told(f"Cursor::step, {CURSOR}: `replyOf` of `step`, {CALLS}: `[` in `[]`, expected names and parentheses alone")
+        self.change(CALLS, "answerAnd (begun b)", "(answer (begun b .0), b)")
+        self.told(f"making::begin, {LIB}: `runWrite` of `begin`, {CALLS}: `answer (begun b .0), b`, expected `answerAnd (..)` or `numberAnd (..)`")
         self.change(CALLS, "membersFormed (lineMembers text) = lineFormed text", "membersFormed (lineMembers text)")
         broken = f"{CALLS}: `membersFormed (lineMembers text)`, expected an equation"
         self.told(*(f"making::members::{name}, {MEMBERS}: {broken}" for name in ("add_module", "add_line")))
@@ -457,7 +497,7 @@ class Demand2(Case):
     def test_members(self):
         self.change(CALLS, "= moduleOf kind name", "= moduleOf name kind")
         self.told(f"making::members::add_module, {MEMBERS}: contract has `addedMembers buf true (moduleOf sort name)`, "
-                  f"expected `addedMembers buf true (moduleOf name sort)` (run, {CALLS})")
+                  f"expected `addedMembers buf true (moduleOf name sort)` (runWrite, {CALLS})")
         self.change(CALLS, "membersFormed (moduleMembers kind name) = true\n", "")
         self.told(f"making::members::add_module, {MEMBERS}: no equation of `membersFormed` for `moduleMembers sort name`, {CALLS}")
 

@@ -24,11 +24,10 @@ use Rattle.ultra_building.specs.Building.{emptyHead, begun, placement, addedAt,
 use Rattle.ultra_acceptance.specs.Acceptance.{HoldsContext}
 use Rattle.ultra_acceptance.specs.Steps.{StepsThrough}
 use Rattle.ultra_acceptance.proofs.Steps.{stepping-through}
-use Rattle.demand_2.specs.Calls.{membersFormed, membersBody, Call, run}
+use Rattle.demand_2.specs.Calls.{membersFormed, membersBody, Write.begin, Write.add, Write.addMembers}
+use Rattle.demand_2.specs.Calls.{Call, Call.write, Call.ask, Reply.answer, runWrite, run}
 use Rattle.demand_2.specs.CallsFromC.{AnyCall, inRattle, runAny}
 use Rattle.demand_2.specs.Arguments.{AllTyped}
-use Rattle.demand_2.specs.Calls.{Call.begin, Call.add, Call.addMembers, Call.read, Call.step, Call.askAttribute, Call.askStart, Call.askPart, Call.copyMap, Call.copyMapBytes, Call.askLine, Call.locateLine, Call.askModule, Call.list, Call.askListingLength}
-use Rattle.demand_2.specs.Calls.{Reply.answer}
 use Rattle.demand_2.specs.Model.{contextGiven, listAfterAll, anyReply}
 use Rattle.demand_2.specs.Demand2.{Follows, Undetermined, ReadsBack, bufferNow, listNow, Demand2}
 use Rattle.demand_2.proofs.Appending.{appends}
@@ -102,27 +101,16 @@ kept-members b f x a e n = go (placement b (typeOf x) (givenCheck f x) (writtenS
     go (Refused r) w = refl
 
 refusals : (b : List ℕ) (k : Call) (a : Answer) → run k b .0 ≡ answer a → (numberOf a ≡ 0 → ⊥) → run k b .1 ≡ b
-unfolding run begun
-refusals b begin a e n = go (leb 8 (roomOf b)) e
+unfolding runWrite begun
+refusals b (ask q) a e n = refl
+refusals b (write begin) a e n = go (leb 8 (roomOf b)) e
   where
     go : (t : Bool) → answer (pick {X = Answer × List ℕ} t (Done 8, over emptyHead b) (refused SHORT 0, b) .0) ≡ answer a
         → pick {X = Answer × List ℕ} t (Done 8, over emptyHead b) (refused SHORT 0, b) .1 ≡ b
     go true w = absurd (n (ap numberOf (same a (Done 8) (sym w))))
     go false w = refl
-refusals b (add g) a e n = kept-members b (formed g) (bodyGiven g) a e n
-refusals b (addMembers m) a e n = kept-members b (membersFormed m) (membersBody m) a e n
-refusals b read a e n = refl
-refusals b (step k) a e n = refl
-refusals b (askAttribute i) a e n = refl
-refusals b (askStart i) a e n = refl
-refusals b (askPart i) a e n = refl
-refusals b (copyMap out) a e n = refl
-refusals b (copyMapBytes out) a e n = refl
-refusals b askLine a e n = refl
-refusals b locateLine a e n = refl
-refusals b (askModule m) a e n = refl
-refusals b (list out) a e n = refl
-refusals b askListingLength a e n = refl
+refusals b (write (add g)) a e n = kept-members b (formed g) (bodyGiven g) a e n
+refusals b (write (addMembers m)) a e n = kept-members b (membersFormed m) (membersBody m) a e n
 
 pub demand-2 : Demand2
 demand-2 =

@@ -22,7 +22,7 @@ use Rattle.ultra_format.specs.Plain.{writtenSize, Plain}
 use Rattle.ultra_format.specs.Records.{trimmed}
 use Rattle.ultra_questions.specs.MapQuestion.{numbers}
 use Rattle.ultra_format.specs.Examples.{zeros, sixTypes, sixTypesBytes}
-use Rattle.ultra_format.specs.Additions.{Addition, Addition.addPlatform, Addition.addMap, Addition.addCommandLine, attributeGiven, entriesGiven, bodyGiven, givenCheck}
+use Rattle.ultra_format.specs.Additions.{Addition, Addition.addPlatform, Addition.addCommandLine, attributeGiven, entriesGiven, bodyGiven, givenCheck}
 use Rattle.refusals.proofs.Chains.{both-hold}
 use Rattle.ultra_format.proofs.Decoded.{decoded-only}
 use Rattle.ultra_format.proofs.Witness.{six-types-written, silent-zero}
@@ -35,13 +35,14 @@ use Rattle.ultra_building.specs.Building.{begun, appendCheck, placement, addedM
 use Rattle.refusals.specs.declared.Answer.the-variants.{Done}
 use Rattle.demand_3.specs.Witness.{everyPlatformRecord, everyKernelRecord, everyEntries, everyLine}
 use Rattle.ultra_acceptance.specs.Steps.{StepsThrough}
-use Rattle.demand_2.specs.Calls.{membersBody, Reply, Call.add, Call.read, Call.step, Reply.number}
-use Rattle.demand_2.specs.CallsFromC.{CallFromC, CallFromC.ultraRead, CallFromC.ultraStep, CallFromC.ultraAddMap, AnyCall, AnyCall.fromRattle, AnyCall.fromC, asked, inRattle, runAny, after}
-use Rattle.demand_2.specs.Arguments.{AdditionTyped, Among, AllTyped}
-use Rattle.demand_2.specs.Model.{attributesGiven, contextGiven, typesAfter, giving, listAfterAll, replyTo, anyReply}
+use Rattle.demand_2.specs.Calls.{Members, membersBody, Write.begin, Write.add, Write.addMembers, Question, Question.read, Question.step}
+use Rattle.demand_2.specs.Calls.{Call, Call.write, Call.ask, Reply, Reply.number}
+use Rattle.demand_2.specs.CallsFromC.{QuestionFromC, QuestionFromC.ultraRead, QuestionFromC.ultraStep, CallFromC.askFromC, asked}
+use Rattle.demand_2.specs.CallsFromC.{AnyCall, AnyCall.fromC, inRattle, runAny, after}
+use Rattle.demand_2.specs.Arguments.{CallTyped, AllTyped}
+use Rattle.demand_2.specs.Model.{attributesGiven, contextGiven, typesAfter, giving, listAfterAll, repliesIn, replyTo, anyReply}
 use Rattle.demand_2.specs.Demand2.{Undetermined, ReadsBack, Appended, adds, bufferNow, listNow}
-use Rattle.demand_2.specs.Witness.{sixAdditions, everyCall, ones, absentPlatform, widestCalls, Built, EveryKind, FromCAndMembers, AnyArguments, one, two, TwoAreEnough, otherHead}
-use Rattle.demand_2.proofs.Arguments.{EachTyped, each-typed, typed-none, typed-first, typed-rest, typed-more}
+use Rattle.demand_2.specs.Witness.{sixAdditions, everyWrite, asks, asksFromC, everyQuestion, everyQuestionFromC, everyCall, ones, widestCalls, Built, EveryKind, FromCAndMembers, AnyArguments, one, two, TwoAreEnough, otherHead}
 use Rattle.demand_2.proofs.Additions.{given-type}
 use Rattle.demand_2.proofs.Following.{length-given}
 use Rattle.demand_2.proofs.ReadingBack.{at-given}
@@ -60,26 +61,43 @@ ones-bytes (suc n) zero = omega arith
 ones-bytes (suc n) (suc i) = ones-bytes n i
 
 pub widest : AllTyped widestCalls
-unfolding EachTyped
-widest = each-typed widestCalls
+unfolding AllTyped
+widest =
     (record { kind = omega arith; loaderMajor = omega arith; loaderMinor = omega arith; name = (refl, ones-bytes 32); rsdp = omega arith; higherHalfBase = omega arith; depth = omega arith; dtb = omega arith; smbios = tt }, (record { physicalBase = omega arith; virtualBase = omega arith; size = omega arith; partitionType = omega arith; diskGuid = (refl, ones-bytes 16); partitionGuid = (refl, ones-bytes 16); diskIndex = omega arith; partitionIndex = omega arith; path = (refl, ones-bytes 256) }, ((omega arith, (omega arith, tt)), (record { kind = omega arith; name = (refl, ones-bytes 64); address = omega arith; size = omega arith }, (ones-bytes 9, (record { width = omega arith; height = omega arith; pitch = omega arith; bpp = omega arith; format = omega arith; address = omega arith }, (record { kindTyped = omega arith; majorTyped = omega arith; minorTyped = omega arith; nameTyped = ones-bytes 300; rsdpTyped = omega arith; baseTyped = omega arith; depthTyped = omega arith; dtbTyped = omega arith; smbiosTyped = omega arith }, (record { physicalTyped = omega arith; virtualTyped = omega arith; sizeTyped = omega arith; partitionTypeTyped = omega arith; diskTyped = ones-bytes 17; partitionTyped = ones-bytes 300; diskIndexTyped = omega arith; partitionIndexTyped = omega arith; pathTyped = ones-bytes 300 }, (ones-bytes 25, ((omega arith, ones-bytes 300, omega arith, omega arith), tt))))))))))
 
 -- ---- calls of every kind
+joined : (ks js : List AnyCall) → AllTyped ks → AllTyped js → AllTyped (ks ++ js)
+unfolding AllTyped
+joined [] js y z = z
+joined (k ∷ ks) js y z = (y .0, joined ks js (y .1) z)
+
+questions-typed : (qs : List Question) → AllTyped (asks qs)
+unfolding AllTyped asks
+questions-typed [] = tt
+questions-typed (q ∷ qs) = (tt, questions-typed qs)
+
+questions-from-c-typed : (qs : List QuestionFromC) → AllTyped (asksFromC qs)
+unfolding AllTyped asksFromC
+questions-from-c-typed [] = tt
+questions-from-c-typed (q ∷ qs) = (tt, questions-from-c-typed qs)
+
 module _ (typed : AllTyped (adds sixAdditions)) where
-  here : (g : Addition) → Among (fromRattle (add g)) (adds sixAdditions) → AdditionTyped g
-  here g a = typed .records (fromRattle (add g)) g a refl
+  writes-typed : AllTyped everyWrite
+  unfolding AllTyped every adds
+  writes-typed =
+      (typed .0, (record { physicalTyped = omega arith; virtualTyped = omega arith; sizeTyped = omega arith; partitionTypeTyped = omega arith; diskTyped = some-bytes (zeros 16) refl; partitionTyped = some-bytes (zeros 16) refl; diskIndexTyped = omega arith; partitionIndexTyped = omega arith; pathTyped = some-bytes (47 ∷ []) refl }, (tt, (tt, (record { kindTyped = omega arith; majorTyped = omega arith; minorTyped = omega arith; nameTyped = some-bytes (98 ∷ []) refl; rsdpTyped = omega arith; baseTyped = omega arith; depthTyped = omega arith; dtbTyped = omega arith; smbiosTyped = omega arith }, (record { physicalTyped = omega arith; virtualTyped = omega arith; sizeTyped = omega arith; partitionTypeTyped = omega arith; diskTyped = some-bytes (everyKernelRecord .kernel .«disk_guid») refl; partitionTyped = some-bytes (everyKernelRecord .kernel .«partition_guid») refl; diskIndexTyped = omega arith; partitionIndexTyped = omega arith; pathTyped = some-bytes (47 ∷ 107 ∷ 195 ∷ 169 ∷ []) refl }, (some-bytes everyEntries refl, ((omega arith, some-bytes (109 ∷ []) refl, omega arith, omega arith), (some-bytes everyLine refl, (typed .1 .1 .1 .1 .1 .0, (record { kindTyped = omega arith; majorTyped = omega arith; minorTyped = omega arith; nameTyped = some-bytes [] refl; rsdpTyped = omega arith; baseTyped = omega arith; depthTyped = omega arith; dtbTyped = omega arith; smbiosTyped = omega arith }, (record { kindTyped = omega arith; majorTyped = omega arith; minorTyped = omega arith; nameTyped = some-bytes [] refl; rsdpTyped = omega arith; baseTyped = omega arith; depthTyped = omega arith; dtbTyped = omega arith; smbiosTyped = omega arith }, (typed .1 .0, (record { physicalTyped = omega arith; virtualTyped = omega arith; sizeTyped = omega arith; partitionTypeTyped = omega arith; diskTyped = some-bytes [] refl; partitionTyped = some-bytes [] refl; diskIndexTyped = omega arith; partitionIndexTyped = omega arith; pathTyped = some-bytes (47 ∷ []) refl }, ((omega arith, (omega arith, tt)), (some-bytes (0 ∷ []) refl, (typed .1 .1 .1 .0, ((omega arith, some-bytes [] refl, omega arith, omega arith), (some-bytes [] refl, (typed .1 .1 .1 .1 .1 .0, tt))))))))))))))))))))
 
   every-typed : AllTyped everyCall
-  unfolding EachTyped every adds Among
-  every-typed = each-typed everyCall
-      (here _ (inl refl), (record { physicalTyped = omega arith; virtualTyped = omega arith; sizeTyped = omega arith; partitionTypeTyped = omega arith; diskTyped = some-bytes (zeros 16) refl; partitionTyped = some-bytes (zeros 16) refl; diskIndexTyped = omega arith; partitionIndexTyped = omega arith; pathTyped = some-bytes (47 ∷ []) refl }, (tt, (tt, (record { kindTyped = omega arith; majorTyped = omega arith; minorTyped = omega arith; nameTyped = some-bytes (98 ∷ []) refl; rsdpTyped = omega arith; baseTyped = omega arith; depthTyped = omega arith; dtbTyped = omega arith; smbiosTyped = omega arith }, (record { physicalTyped = omega arith; virtualTyped = omega arith; sizeTyped = omega arith; partitionTypeTyped = omega arith; diskTyped = some-bytes (everyKernelRecord .kernel .«disk_guid») refl; partitionTyped = some-bytes (everyKernelRecord .kernel .«partition_guid») refl; diskIndexTyped = omega arith; partitionIndexTyped = omega arith; pathTyped = some-bytes (47 ∷ 107 ∷ 195 ∷ 169 ∷ []) refl }, (some-bytes everyEntries refl, ((omega arith, some-bytes (109 ∷ []) refl, omega arith, omega arith), (some-bytes everyLine refl, (here _ (inr (inr (inr (inr (inr (inl refl)))))), (record { kindTyped = omega arith; majorTyped = omega arith; minorTyped = omega arith; nameTyped = some-bytes [] refl; rsdpTyped = omega arith; baseTyped = omega arith; depthTyped = omega arith; dtbTyped = omega arith; smbiosTyped = omega arith }, (record { kindTyped = omega arith; majorTyped = omega arith; minorTyped = omega arith; nameTyped = some-bytes [] refl; rsdpTyped = omega arith; baseTyped = omega arith; depthTyped = omega arith; dtbTyped = omega arith; smbiosTyped = omega arith }, (here _ (inr (inl refl)), (record { physicalTyped = omega arith; virtualTyped = omega arith; sizeTyped = omega arith; partitionTypeTyped = omega arith; diskTyped = some-bytes [] refl; partitionTyped = some-bytes [] refl; diskIndexTyped = omega arith; partitionIndexTyped = omega arith; pathTyped = some-bytes (47 ∷ []) refl }, ((omega arith, (omega arith, tt)), (some-bytes (0 ∷ []) refl, (here _ (inr (inr (inr (inl refl)))), ((omega arith, some-bytes [] refl, omega arith, omega arith), (some-bytes [] refl, (here _ (inr (inr (inr (inr (inr (inl refl)))))), (tt, (tt, (tt, (tt, (tt, (tt, (tt, (tt, (tt, (tt, (tt, (tt, (tt, (tt, (tt, (tt, (tt, (tt, tt))))))))))))))))))))))))))))))))))))))
+  every-typed =
+      joined everyWrite (asks everyQuestion ++ asksFromC everyQuestionFromC) writes-typed
+      (joined (asks everyQuestion) (asksFromC everyQuestionFromC) (questions-typed everyQuestion) (questions-from-c-typed everyQuestionFromC))
 
 -- the list that they leave, in the least room and in the greatest: by computation
 abbrev Lists : ℕ → Type 0
 Lists room = listAfterAll room everyCall [] ≡ sixAdditions
 
 every-list : Lists 640 × Lists 65536
-unfolding listAfterAll giving attributesGiven typesAfter appendCheck placeCheck placed occurs bodyGiven entriesGiven trimmed writtenSize givenCheck bodyCheck sizeSuits values kernelValues moduleValues framebufferValues bppSuits texts asciiText pathText every ranges ordered entriesOrdered total numbers numberAt numbersAt
+unfolding listAfterAll asks asksFromC giving attributesGiven typesAfter appendCheck placeCheck placed occurs bodyGiven entriesGiven trimmed writtenSize givenCheck bodyCheck sizeSuits values kernelValues moduleValues framebufferValues bppSuits texts asciiText pathText every ranges ordered entriesOrdered total numbers numberAt numbersAt
 every-list = (refl, refl)
 
 -- ---- the buffer, and what is answered of it
@@ -96,32 +114,32 @@ module _ (typed : AllTyped (adds sixAdditions)) (context : contextGiven sixAddit
       subst (λ (c : Context). take (used c) (bufferNow b everyCall) ≡ written c) (ap contextGiven list-now ∙ context) (demand-2 .follows b everyCall begins (every-typed typed) .bytes)
       ∙ six-types-written
 
-  asks : (k : AnyCall) → (Undetermined room (contextGiven sixAdditions) (inRattle k) → ⊥) → runAny k (bufferNow b everyCall) .0 ≡ anyReply room k sixAdditions
-  asks k n =
+  replied-now : (k : AnyCall) → (Undetermined room (contextGiven sixAdditions) (inRattle k) → ⊥) → runAny k (bufferNow b everyCall) .0 ≡ anyReply room k sixAdditions
+  replied-now k n =
       let q : Undetermined (roomOf b) (contextGiven (listNow b everyCall)) (inRattle k) ≡ Undetermined room (contextGiven sixAdditions) (inRattle k) = λ i. Undetermined (r i) (contextGiven (list-now i)) (inRattle k) in
       demand-2 .answers b everyCall k begins (every-typed typed) (λ u. n (subst (λ (t : Type 0). t) q u)) ∙ (λ i. anyReply (r i) k (list-now i))
 
 -- ---- calls whose answer the list determines
-same-cursor : (i o : ℕ) (j : Cursor) → step (cursorAt i o) ≡ step j → (j .index ≡ i) × (j .offset ≡ o)
+same-cursor : (i o : ℕ) (j : Cursor) → ask (step (cursorAt i o)) ≡ ask (step j) → (j .index ≡ i) × (j .offset ≡ o)
 same-cursor i o j e = let q : j ≡ cursorAt i o = cc in (ap (λ (k : Cursor). k .index) q, ap (λ (k : Cursor). k .offset) q)
 
 six-used : (used (contextGiven sixAdditions) ≡ 640) × (count (contextGiven sixAdditions) ≡ 6)
 unfolding total attributesGiven bodyGiven writtenSize entriesGiven
 six-used = (refl, refl)
 
-determined : (room i o : ℕ) → (i < 6 → 640 ≤ o → o + 8 ≤ room → o % 8 ≡ 0 → ⊥) → Undetermined room (contextGiven sixAdditions) (step (cursorAt i o)) → ⊥
+determined : (room i o : ℕ) → (i < 6 → 640 ≤ o → o + 8 ≤ room → o % 8 ≡ 0 → ⊥) → Undetermined room (contextGiven sixAdditions) (ask (step (cursorAt i o))) → ⊥
 determined room i o n u =
     let q = same-cursor i o (u .0) (u .1) in
     n (omega (arith, q .0, u .3, six-used .1)) (omega (arith, q .1, u .4, six-used .0)) (omega (arith, q .1, u .5)) (ap (λ (k : ℕ). k % 8) (sym (q .1)) ∙ u .6)
 
-no-step : (room : ℕ) → Undetermined room (contextGiven sixAdditions) read → ⊥
+no-step : (room : ℕ) → Undetermined room (contextGiven sixAdditions) (ask read) → ⊥
 no-step room u = let e = u .1 in let z : _≡_ {A = ℕ} 0 1 = cc in omega arith
 
-abbrev Replied : ℕ → CallFromC → ℕ → Type 0
-Replied room k n = anyReply room (fromC k) sixAdditions ≡ number n
+abbrev Replied : ℕ → QuestionFromC → ℕ → Type 0
+Replied room q n = anyReply room (fromC (askFromC q)) sixAdditions ≡ number n
 
 replied : Replied 640 ultraRead 640 × Replied 640 (ultraStep 0 16) 25769803792 × Replied 640 (ultraStep 5 608) 640 × Replied 65536 (ultraStep 6 640) 0 × Replied 640 (ultraStep 0 640) 21474837120 × Replied 65536 (ultraStep 0 644) 21474837124
-unfolding replyTo attributesGiven bodyGiven entriesGiven trimmed writtenSize total cells filled entriesFields attributesFields boundsCheck numberAt
+unfolding replyTo repliesIn attributesGiven bodyGiven entriesGiven trimmed writtenSize total cells filled entriesFields attributesFields boundsCheck numberAt
 replied = (refl, refl, refl, refl, refl, refl)
 
 pub every-kind : Built sixAdditions sixTypes sixTypesBytes 640 → EveryKind
@@ -132,25 +150,25 @@ every-kind w =
           let n = demand-2 .sameLength b everyCall (demand-2 .begins b (omega arith) .0) (every-typed (w .typed)) in
           sym (take-all 640 (bufferNow b everyCall) (omega arith)) ∙ front (w .typed) (w .list) b 640 (omega arith) (every-list .0) (omega arith);
       long = λ b e. front (w .typed) (w .list) b 65536 (omega arith) (every-list .1) (omega arith);
-      read = λ b e. least b e (fromC ultraRead) (no-step 640) ∙ replied .0;
-      last = λ b e. least b e (fromC (ultraStep 5 608)) (determined 640 5 608 (λ h i j k. omega arith)) ∙ replied .2;
-      inside = λ b e. least b e (fromC (ultraStep 0 16)) (determined 640 0 16 (λ h i j k. omega arith)) ∙ replied .1;
-      end = λ b e. greatest b e (fromC (ultraStep 6 640)) (determined 65536 6 640 (λ h i j k. omega arith)) ∙ replied .3;
-      pastRoom = λ b e. least b e (fromC (ultraStep 0 640)) (determined 640 0 640 (λ h i j k. omega arith)) ∙ replied .4;
-      crooked = λ b e. greatest b e (fromC (ultraStep 0 644)) (determined 65536 0 644 (λ h i j k. omega arith)) ∙ replied .5;
+      read = λ b e. least b e (fromC (askFromC ultraRead)) (no-step 640) ∙ replied .0;
+      last = λ b e. least b e (fromC (askFromC (ultraStep 5 608))) (determined 640 5 608 (λ h i j k. omega arith)) ∙ replied .2;
+      inside = λ b e. least b e (fromC (askFromC (ultraStep 0 16))) (determined 640 0 16 (λ h i j k. omega arith)) ∙ replied .1;
+      end = λ b e. greatest b e (fromC (askFromC (ultraStep 6 640))) (determined 65536 6 640 (λ h i j k. omega arith)) ∙ replied .3;
+      pastRoom = λ b e. least b e (fromC (askFromC (ultraStep 0 640))) (determined 640 0 640 (λ h i j k. omega arith)) ∙ replied .4;
+      crooked = λ b e. greatest b e (fromC (askFromC (ultraStep 0 644))) (determined 65536 0 644 (λ h i j k. omega arith)) ∙ replied .5;
     }
   where
     least : (b : List ℕ) → length b ≡ 640 → (k : AnyCall) → (Undetermined 640 (contextGiven sixAdditions) (inRattle k) → ⊥) → runAny k (bufferNow b everyCall) .0 ≡ anyReply 640 k sixAdditions
-    least b e = asks (w .typed) (w .list) b 640 (omega arith) (every-list .0) (omega arith)
+    least b e = replied-now (w .typed) (w .list) b 640 (omega arith) (every-list .0) (omega arith)
 
     greatest : (b : List ℕ) → length b ≡ 65537 → (k : AnyCall) → (Undetermined 65536 (contextGiven sixAdditions) (inRattle k) → ⊥) → runAny k (bufferNow b everyCall) .0 ≡ anyReply 65536 k sixAdditions
-    greatest b e = asks (w .typed) (w .list) b 65536 (omega arith) (every-list .1) (omega arith)
+    greatest b e = replied-now (w .typed) (w .list) b 65536 (omega arith) (every-list .1) (omega arith)
 
 -- ---- two attributes
 module _ (w : AllTyped (adds sixAdditions)) (b : List ℕ) (e : length b ≡ 432) where
   two-typed : AllTyped (adds two)
-  unfolding EachTyped adds Among
-  two-typed = each-typed (adds two) (here w _ (inl refl), (here w _ (inr (inl refl)), tt))
+  unfolding AllTyped adds
+  two-typed = (w .0, (w .1 .0, tt))
 
   two-listed : listAfterAll 432 (adds two) [] ≡ two
   unfolding listAfterAll adds attributesGiven typesAfter appendCheck placeCheck placed occurs bodyGiven entriesGiven trimmed writtenSize givenCheck bodyCheck sizeSuits values kernelValues texts asciiText pathText every ranges ordered total
@@ -172,8 +190,8 @@ module _ (w : AllTyped (adds sixAdditions)) (b : List ℕ) (e : length b ≡ 432
 -- one attribute
 module _ (w : AllTyped (adds sixAdditions)) (b : List ℕ) (e : length b ≡ 104) where
   one-typed : AllTyped (adds one)
-  unfolding EachTyped adds Among
-  one-typed = each-typed (adds one) (here w _ (inl refl), tt)
+  unfolding AllTyped adds
+  one-typed = (w .0, tt)
 
   one-listed : listAfterAll 104 (adds one) [] ≡ one
   unfolding listAfterAll adds attributesGiven typesAfter appendCheck placeCheck placed occurs bodyGiven trimmed writtenSize givenCheck bodyCheck sizeSuits values texts asciiText every ranges ordered total
@@ -182,20 +200,20 @@ module _ (w : AllTyped (adds sixAdditions)) (b : List ℕ) (e : length b ≡ 104
   one-now : listNow b (adds one) ≡ one
   one-now = let r : roomOf b ≡ 104 = omega arith in ap (λ (n : ℕ). listAfterAll n (adds one) []) r ∙ one-listed
 
-  one-replied : anyReply 104 (fromC (ultraStep 0 96)) one ≡ number 17179869184
-  unfolding replyTo attributesGiven
+  one-replied : anyReply 104 (fromC (askFromC (ultraStep 0 96))) one ≡ number 17179869184
+  unfolding replyTo repliesIn attributesGiven
   one-replied = refl
 
   one-counted : count (contextGiven one) ≡ 1
   unfolding attributesGiven
   one-counted = refl
 
-  one-is-not : runAny (fromC (ultraStep 0 96)) (bufferNow b (adds one)) .0 ≡ number 17179869184
+  one-is-not : runAny (fromC (askFromC (ultraStep 0 96))) (bufferNow b (adds one)) .0 ≡ number 17179869184
   one-is-not =
       let r : roomOf b ≡ 104 = omega arith in
       let n : count (contextGiven (listNow b (adds one))) ≡ 1 = ap (λ (gs : List Addition). count (contextGiven gs)) one-now ∙ one-counted in
-      demand-2 .answers b (adds one) (fromC (ultraStep 0 96)) (demand-2 .begins b (omega arith) .0) one-typed (λ u. omega (arith, n, u .2))
-      ∙ (λ i. anyReply (r i) (fromC (ultraStep 0 96)) (one-now i))
+      demand-2 .answers b (adds one) (fromC (askFromC (ultraStep 0 96))) (demand-2 .begins b (omega arith) .0) one-typed (λ u. omega (arith, n, u .2))
+      ∙ (λ i. anyReply (r i) (fromC (askFromC (ultraStep 0 96))) (one-now i))
       ∙ one-replied
 
 pub two-are-enough : AllTyped (adds sixAdditions) → TwoAreEnough
@@ -203,11 +221,11 @@ two-are-enough w = record { oneIsNot = one-is-not w; back = two-back w; through 
 
 -- ---- heads
 pub head : (b : List ℕ) → length b ≡ 8 → begun b ≡ (Done 8, 1 ∷ zeros 7)
-unfolding after listAfterAll attributesGiven attributesFields total cells filled
+unfolding after listAfterAll AllTyped attributesGiven attributesFields total cells filled
 head b e =
     let h = demand-2 .begins b (omega arith) .0 in
-    let n : length (begun b .1) ≡ length b = demand-2 .sameLength b [] h typed-none in
-    let x : take 8 (begun b .1) ≡ 1 ∷ zeros 7 = demand-2 .follows b [] h typed-none .bytes in
+    let n : length (begun b .1) ≡ length b = demand-2 .sameLength b [] h tt in
+    let x : take 8 (begun b .1) ≡ 1 ∷ zeros 7 = demand-2 .follows b [] h tt .bytes in
     let y : begun b .1 ≡ 1 ∷ zeros 7 = sym (take-all 8 (begun b .1) (omega arith)) ∙ x in
     λ i. (h i, y i)
 
@@ -232,27 +250,30 @@ unfolding addedMembers placement usedLength headCheck attributesAnswer start typ
 other-answered = refl
 
 pub other : AllTyped (adds sixAdditions) → Appended otherHead (contextOf otherHead) anyPlatform (added otherHead anyPlatform .1) 96
-unfolding adds Among
-other w = demand-2 .appends otherHead (contextOf otherHead) anyPlatform 96 other-held (here w anyPlatform (inl refl)) other-answered
+unfolding adds AllTyped
+other w = demand-2 .appends otherHead (contextOf otherHead) anyPlatform 96 other-held (w .0) other-answered
 
 pub other-kept : AllTyped (adds sixAdditions) → (i : ℕ) → (i < 4) ⊎ (96 ≤ i) → getD (added otherHead anyPlatform .1) i 0 ≡ getD otherHead i 0
 other-kept w i h = other w .others i (⊎-elim inl (λ l. inr (inr l)) h)
 
 -- ---- arguments of any length
-joined : (ks js : List AnyCall) → AllTyped ks → AllTyped js → AllTyped (ks ++ js)
-joined [] js y z = z
-joined (k ∷ ks) js y z = typed-more k (ks ++ js) (typed-first k ks y) (joined ks js (typed-rest k ks y) z)
+-- a call that is no add
+other-typed : (k : Call) → ((g : Addition) → k ≡ write (add g) → ⊥) → ((m : Members) → k ≡ write (addMembers m) → ⊥) → CallTyped k
+other-typed (ask q) p r = tt
+other-typed (write begin) p r = tt
+other-typed (write (add g)) p r = absurd (p g refl)
+other-typed (write (addMembers m)) p r = absurd (r m refl)
 
 pub any-arguments : AnyArguments
-unfolding EachTyped every
+unfolding AllTyped every
 any-arguments =
     record {
-      lines = λ t y. each-typed (fromRattle (add (addCommandLine t)) ∷ fromC (ultraAddMap t) ∷ []) (y, (y, tt));
-      noMap = each-typed (fromRattle (add (addMap [])) ∷ []) (tt, tt);
-      noMembers = each-typed (fromRattle (add (addPlatform absentPlatform)) ∷ [])
+      lines = λ t y. (y, (y, tt));
+      noMap = (tt, tt);
+      noMembers =
           (record { kind = omega arith; loaderMajor = omega arith; loaderMinor = omega arith; name = (refl, some-bytes (zeros 32) refl); rsdp = omega arith; higherHalfBase = tt; depth = tt; dtb = tt; smbios = tt }, tt);
       joined = joined;
-      reading = λ k p q. typed-more k [] (record { records = λ g e. absurd (p g e); members = λ m e. absurd (q m e) }) typed-none;
+      reading = λ k p r. (other-typed (inRattle k) p r, tt);
     }
 
 -- ---- what was built is plain

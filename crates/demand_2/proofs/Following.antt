@@ -26,16 +26,15 @@ use Rattle.ultra_acceptance.proofs.Acceptance.{complete}
 use Rattle.ultra_building.specs.Building.{emptyHead, begun, appendCheck, addedAt, addedMembers, added}
 use Rattle.ultra_building.proofs.Adding.{membersCheckOn, members-held, checkOn}
 use Rattle.ultra_building.proofs.Placements.{Admits, admits}
-use Rattle.demand_2.specs.Calls.{Members, membersFormed, membersBody, Call, Reply, run}
-use Rattle.demand_2.specs.Calls.{Call.begin, Call.add, Call.addMembers, Call.read, Call.step, Call.askAttribute, Call.askStart, Call.askPart, Call.copyMap, Call.copyMapBytes, Call.askLine, Call.locateLine, Call.askModule, Call.list, Call.askListingLength}
-use Rattle.demand_2.specs.CallsFromC.{CallFromC, runFromC, asked, replyCrossed, AnyCall, inRattle, runAny, after}
-use Rattle.demand_2.specs.CallsFromC.{CallFromC.ultraRead, CallFromC.ultraStep, CallFromC.ultraAttribute, CallFromC.ultraCopyMap, CallFromC.ultraCommandLine, CallFromC.ultraModuleHolding, CallFromC.ultraBegin}
-use Rattle.demand_2.specs.CallsFromC.{CallFromC.ultraAddPlatform, CallFromC.ultraAddKernel, CallFromC.ultraAddMap, CallFromC.ultraAddModule, CallFromC.ultraAddCommandLine, CallFromC.ultraAddFramebuffer}
-use Rattle.demand_2.specs.CallsFromC.{AnyCall.fromRattle, AnyCall.fromC}
-use Rattle.demand_2.specs.Arguments.{AdditionTyped, MembersTyped, AllTyped}
+use Rattle.demand_2.specs.Calls.{Members, membersFormed, membersBody, Write.begin, Write.add, Write.addMembers}
+use Rattle.demand_2.specs.Calls.{Call, Call.write, Call.ask, Reply, replyOf, runWrite, run}
+use Rattle.demand_2.specs.CallsFromC.{CallFromC, CallFromC.writeFromC, CallFromC.askFromC, replyFromC, runWriteFromC, runFromC, asked, replyCrossed}
+use Rattle.demand_2.specs.CallsFromC.{QuestionFromC.ultraRead, QuestionFromC.ultraStep, QuestionFromC.ultraAttribute, QuestionFromC.ultraCopyMap, QuestionFromC.ultraCommandLine, QuestionFromC.ultraModuleHolding}
+use Rattle.demand_2.specs.CallsFromC.{WriteFromC.ultraBegin, WriteFromC.ultraAddPlatform, WriteFromC.ultraAddKernel, WriteFromC.ultraAddMap, WriteFromC.ultraAddModule, WriteFromC.ultraAddCommandLine, WriteFromC.ultraAddFramebuffer}
+use Rattle.demand_2.specs.CallsFromC.{AnyCall, AnyCall.fromRattle, AnyCall.fromC, inRattle, runAny, after}
+use Rattle.demand_2.specs.Arguments.{AdditionTyped, MembersTyped, CallTyped, AllTyped}
 use Rattle.demand_2.specs.Model.{attributesGiven, contextGiven, typesAfter, membersRefusal, refusalOf, giving, appended, listAfter, listAfterAll}
 use Rattle.demand_2.specs.Demand2.{Follows}
-use Rattle.demand_2.proofs.Arguments.{Typed, typed-first, typed-rest}
 use Rattle.demand_2.proofs.GivenMembers.{RecordOf, record-of, same-run}
 use Rattle.demand_2.proofs.Appending.{all-more, says-type, sound, left-length, written-left, held-more, total-more}
 
@@ -177,12 +176,12 @@ module _ (d : List ℕ) (gs : List Addition) (h : Keeps d gs) where
 
   -- members that are not refused are the record that has them
   members-follow : (m : Members) → MembersTyped m
-      → Keeps (run (addMembers m) d .1) (listAfter (roomOf d) (addMembers m) gs) × (length (run (addMembers m) d .1) ≡ length d)
-  unfolding run
+      → Keeps (runWrite (addMembers m) d .1) (listAfter (roomOf d) (write (addMembers m)) gs) × (length (runWrite (addMembers m) d .1) ≡ length d)
+  unfolding runWrite
   members-follow m y = go (membersRefusal (roomOf d) gs (membersFormed m) (membersBody m)) refl
     where
       go : (f : ℕ) → membersRefusal (roomOf d) gs (membersFormed m) (membersBody m) ≡ f
-          → Keeps (run (addMembers m) d .1) (appended f gs (giving (membersBody m))) × (length (run (addMembers m) d .1) ≡ length d)
+          → Keeps (runWrite (addMembers m) d .1) (appended f gs (giving (membersBody m))) × (length (runWrite (addMembers m) d .1) ≡ length d)
       go (suc f) e = rw (added-is d gs (h .follows) (membersFormed m) (membersBody m), e) (h, refl)
       go zero e =
           let g = giving (membersBody m) in
@@ -190,40 +189,29 @@ module _ (d : List ℕ) (gs : List Addition) (h : Keeps d gs) where
           let q : refusalOf (roomOf d) gs g ≡ 0 = (λ i. membersRefusal (roomOf d) gs (sym (r .forms) i) (r .body i)) ∙ e in
           subst (λ (x : Reply × List ℕ). Keeps (x .1) (gs ++ (g ∷ [])) × (length (x .1) ≡ length d)) (sym (same-run d m r)) (rw q at (add-follows g (r .typed)))
 
-pub step-follows : (d : List ℕ) (gs : List Addition) (k : Call) → Keeps d gs → Typed k → Keeps (run k d .1) (listAfter (roomOf d) k gs) × (length (run k d .1) ≡ length d)
-unfolding run
-step-follows d gs begin h y = begin-follows d (long d gs (h .follows))
-step-follows d gs (add g) h y = add-follows d gs h g (y .records g refl)
-step-follows d gs (addMembers m) h y = members-follow d gs h m (y .members m refl)
-step-follows d gs read h y = (h, refl)
-step-follows d gs (step k) h y = (h, refl)
-step-follows d gs (askAttribute i) h y = (h, refl)
-step-follows d gs (askStart i) h y = (h, refl)
-step-follows d gs (askPart i) h y = (h, refl)
-step-follows d gs (copyMap out) h y = (h, refl)
-step-follows d gs (copyMapBytes out) h y = (h, refl)
-step-follows d gs askLine h y = (h, refl)
-step-follows d gs locateLine h y = (h, refl)
-step-follows d gs (askModule a) h y = (h, refl)
-step-follows d gs (list out) h y = (h, refl)
-step-follows d gs askListingLength h y = (h, refl)
+pub step-follows : (d : List ℕ) (gs : List Addition) (k : Call) → Keeps d gs → CallTyped k → Keeps (run k d .1) (listAfter (roomOf d) k gs) × (length (run k d .1) ≡ length d)
+unfolding runWrite
+step-follows d gs (ask q) h y = (h, refl)
+step-follows d gs (write begin) h y = begin-follows d (long d gs (h .follows))
+step-follows d gs (write (add g)) h y = add-follows d gs h g y
+step-follows d gs (write (addMembers m)) h y = members-follow d gs h m y
 
 -- ---- toward C
 pub crosses : (b : List ℕ) (k : CallFromC) → runFromC k b ≡ (replyCrossed (run (asked k) b .0), run (asked k) b .1)
-unfolding run runFromC bodyGiven
-crosses b ultraRead = refl
-crosses b (ultraStep index offset) = refl
-crosses b (ultraAttribute index) = refl
-crosses b (ultraCopyMap out) = refl
-crosses b ultraCommandLine = refl
-crosses b (ultraModuleHolding address) = refl
-crosses b ultraBegin = refl
-crosses b (ultraAddPlatform kind major minor name rsdp base depth dtb smbios) = refl
-crosses b (ultraAddKernel physical virtual size partitionType disk partition diskIndex partitionIndex path) = refl
-crosses b (ultraAddMap entries) = refl
-crosses b (ultraAddModule kind name address size) = refl
-crosses b (ultraAddCommandLine text) = refl
-crosses b (ultraAddFramebuffer width height pitch bpp format address) = refl
+unfolding replyOf runWrite replyFromC runWriteFromC bodyGiven
+crosses b (askFromC ultraRead) = refl
+crosses b (askFromC (ultraStep index offset)) = refl
+crosses b (askFromC (ultraAttribute index)) = refl
+crosses b (askFromC (ultraCopyMap out)) = refl
+crosses b (askFromC ultraCommandLine) = refl
+crosses b (askFromC (ultraModuleHolding address)) = refl
+crosses b (writeFromC ultraBegin) = refl
+crosses b (writeFromC (ultraAddPlatform kind major minor name rsdp base depth dtb smbios)) = refl
+crosses b (writeFromC (ultraAddKernel physical virtual size partitionType disk partition diskIndex partitionIndex path)) = refl
+crosses b (writeFromC (ultraAddMap entries)) = refl
+crosses b (writeFromC (ultraAddModule kind name address size)) = refl
+crosses b (writeFromC (ultraAddCommandLine text)) = refl
+crosses b (writeFromC (ultraAddFramebuffer width height pitch bpp format address)) = refl
 
 pub same-buffer : (k : AnyCall) (b : List ℕ) → runAny k b .1 ≡ run (inRattle k) b .1
 same-buffer (fromRattle k) b = refl
@@ -234,10 +222,10 @@ pub same-room : (d b : List ℕ) → length d ≡ length b → roomOf d ≡ room
 same-room d b e = ap (λ (n : ℕ). min n 65536) e
 
 pub follows-all : (ks : List AnyCall) (d : List ℕ) (gs : List Addition) → Keeps d gs → AllTyped ks → Keeps (after ks d) (listAfterAll (roomOf d) ks gs) × (length (after ks d) ≡ length d)
-unfolding after listAfterAll
+unfolding after listAfterAll AllTyped
 follows-all [] d gs h y = (h, refl)
 follows-all (k ∷ ks) d gs h y =
     let e = runAny k d .1 in
-    let s = rw (← (same-buffer k d)) at (step-follows d gs (inRattle k) h (typed-first k ks y)) in
-    let r = follows-all ks e (listAfter (roomOf d) (inRattle k) gs) (s .0) (typed-rest k ks y) in
+    let s = rw (← (same-buffer k d)) at (step-follows d gs (inRattle k) h (y .0)) in
+    let r = follows-all ks e (listAfter (roomOf d) (inRattle k) gs) (s .0) (y .1) in
     (subst (λ (n : ℕ). Keeps (after ks e) (listAfterAll n ks (listAfter (roomOf d) (inRattle k) gs))) (same-room e d (s .1)) (r .0), r .1 ∙ s .1)

@@ -25,8 +25,8 @@ use Rattle.ultra_building.specs.Building.{placement, addedAt, addedMembers}
 use Rattle.ultra_building.proofs.Placements.{placed}
 use Rattle.ultra_building.proofs.Adding.{given-holds}
 use Rattle.ultra_building.proofs.GivenMembers.{guids-wide}
-use Rattle.demand_2.specs.Calls.{Members, membersFormed, membersBody, Reply, answerAnd, run}
-use Rattle.demand_2.specs.Calls.{Members.platformMembers, Members.kernelMembers, Members.mapMembers, Members.moduleMembers, Call.add, Call.addMembers, Reply.answer}
+use Rattle.demand_2.specs.Calls.{Members, membersFormed, membersBody, answerAnd, runWrite}
+use Rattle.demand_2.specs.Calls.{Members.platformMembers, Members.kernelMembers, Members.mapMembers, Members.moduleMembers, Write.add, Write.addMembers}
 use Rattle.demand_2.specs.Arguments.{NumbersTyped, AdditionTyped, MembersTyped}
 use Rattle.demand_2.specs.Model.{giving}
 use Rattle.demand_2.specs.Demand2.{AsRecord}
@@ -86,12 +86,12 @@ record-of m y z =
 
 -- ---- the add
 module _ (b : List ℕ) (m : Members) where
-  pub same-run : RecordOf m → run (addMembers m) b ≡ run (add (giving (membersBody m))) b
-  unfolding run
+  pub same-run : RecordOf m → runWrite (addMembers m) b ≡ runWrite (add (giving (membersBody m))) b
+  unfolding runWrite
   same-run r = λ i. answerAnd (addedMembers b (r .forms i) (sym (r .body) i))
 
   pub as-record : MembersTyped m → AsRecord b m
-  unfolding run addedMembers
+  unfolding runWrite addedMembers
   as-record y = go (placement b (typeOf (membersBody m)) (givenCheck (membersFormed m) (membersBody m)) (writtenSize (membersBody m))) refl
     where
       go : (p : Answer) → placement b (typeOf (membersBody m)) (givenCheck (membersFormed m) (membersBody m)) (writtenSize (membersBody m)) ≡ p → AsRecord b m

@@ -1,4 +1,3 @@
-pub mod Arguments
 pub mod Additions
 pub mod Appending
 pub mod Records

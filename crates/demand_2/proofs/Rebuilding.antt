@@ -26,14 +26,11 @@ use Rattle.ultra_acceptance.proofs.Walked.{accepted}
 use Rattle.ultra_acceptance.proofs.Acceptance.{complete}
 use Rattle.ultra_building.specs.Building.{appendCheck, begun, added}
 use Rattle.ultra_acceptance.specs.Acceptance.{HoldsContext}
-use Rattle.demand_2.specs.Calls.{run}
-use Rattle.demand_2.specs.Calls.{Call.add}
+use Rattle.demand_2.specs.Calls.{Write.add, Call.write, runWrite}
 use Rattle.demand_2.specs.CallsFromC.{after, replies}
-use Rattle.demand_2.specs.CallsFromC.{AnyCall.fromRattle}
 use Rattle.demand_2.specs.Arguments.{AdditionTyped, AllTyped}
 use Rattle.demand_2.specs.Model.{attributesGiven, contextGiven, typesAfter, refusalOf, giving, appended, listAfterAll}
 use Rattle.demand_2.specs.Demand2.{recordsBack, adds, AllSucceeded, rebuilding, Rebuilt}
-use Rattle.demand_2.proofs.Arguments.{typed-first, typed-rest, typed-more, typed-none, typed-add}
 use Rattle.demand_2.proofs.Appending.{total-append, all-more, says-type}
 use Rattle.demand_2.proofs.Following.{Added, Keeps, length-given, given-append, types-after, begun-is, begin-follows, added-is, step-follows, same-room}
 use Rattle.demand_2.proofs.Records.{giving-body, giving-typed, giving-clear}
@@ -51,11 +48,11 @@ record Took (d : List ℕ) (gs more : List Addition) : Type 0 where
   long : length (after (adds more) d) ≡ length d
 
 takes : (more gs : List Addition) (d : List ℕ) → Keeps d gs → AllTyped (adds more) → Taken (roomOf d) gs more → Took d gs more
-unfolding Taken AllSucceeded replies adds after run
+unfolding Taken AllSucceeded AllTyped replies adds after runWrite
 takes [] gs d h y t = record { succeeded = tt; keeps = rw append-nil h; long = refl }
 takes (g ∷ more) gs d h y t =
-    let s = step-follows d gs (add g) h (typed-first (fromRattle (add g)) (adds more) y) in
-    let r = takes more (gs ++ (g ∷ [])) (added d g .1) (rw (t .0) at (s .0)) (typed-rest (fromRattle (add g)) (adds more) y) (rw (same-room (added d g .1) d (s .1)) (t .1)) in
+    let s = step-follows d gs (write (add g)) h (y .0) in
+    let r = takes more (gs ++ (g ∷ [])) (added d g .1) (rw (t .0) at (s .0)) (y .1) (rw (same-room (added d g .1) d (s .1)) (t .1)) in
     record { succeeded = ((_, refl, rw (added-is d gs (h .follows) (formed g) (bodyGiven g), t .0)), r .succeeded); keeps = rw (← (append-snoc gs g more)) (r .keeps); long = r .long ∙ s .1 }
 
 -- ---- they are those whose context some buffer holds, wherever there is room for it: what stands in that buffer at the place of g tells
@@ -121,9 +118,9 @@ list-taken room (g ∷ more) gs t =
 
 -- ---- what is read back of a plain context
 added-typed : (gs : List Addition) → Added gs → AllTyped (adds gs)
-unfolding adds
-added-typed [] a = typed-none
-added-typed (g ∷ gs) a = typed-more (fromRattle (add g)) (adds gs) (typed-add g (a 0 (omega arith) .0)) (added-typed gs (λ i k. a (suc i) (omega arith)))
+unfolding adds AllTyped
+added-typed [] a = tt
+added-typed (g ∷ gs) a = (a 0 (omega arith) .0, added-typed gs (λ i k. a (suc i) (omega arith)))
 
 module _ (b : List ℕ) (c : Context) (h : HoldsContext 2 b c) (p : Plain b c) where
   module _ (i : ℕ) (k : i < count c) where
@@ -184,13 +181,13 @@ module _ (b : List ℕ) (c : Context) (h : HoldsContext 2 b c) (p : Plain b c) w
     took = takes again [] (begun d .1) (started .0) typed-back (allowed (roomOf (begun d .1)) (omega (arith, started .1)))
 
     pub rebuilt-length : length (after (rebuilding b (count c)) d) ≡ length d
-    unfolding after run
+    unfolding after runWrite
     rebuilt-length = took .long ∙ started .1
 
     pub rebuilt-bytes : take (used c) (after (rebuilding b (count c)) d) ≡ written c
-    unfolding after run
+    unfolding after runWrite
     rebuilt-bytes = subst (λ (x : Context). take (used x) (after (adds again) (begun d .1)) ≡ written x) context-back (took .keeps .follows .bytes)
 
     pub rebuilds : Rebuilt b d c
-    unfolding AllSucceeded replies run
+    unfolding AllSucceeded replies runWrite
     rebuilds = record { unrefused = ((_, refl, rw (begun-is d (omega arith))), took .succeeded); same = rebuilt-bytes ∙ sym plain-bytes }

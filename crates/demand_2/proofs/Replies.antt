@@ -14,7 +14,7 @@ use Rattle.words.specs.Words.{numberAt, u32At, numbersIn}
 use Rattle.key_value_text.specs.Lines.{Line, linesBytes}
 use Rattle.byte_layout.specs.Stored.{bytesAt}
 use Rattle.refusals.specs.Refusals.{MISSING}
-use Rattle.refusals.specs.Answers.{refusal, refused, orRefused}
+use Rattle.refusals.specs.Answers.{refused, orRefused}
 use Rattle.ultra_format.specs.Contexts.{Body, Context, count, sizeAt, used, total}
 use Rattle.ultra_format.specs.Layouts.{roomOf, written}
 use Rattle.ultra_format.specs.Rules.{Meets}
@@ -22,7 +22,7 @@ use Rattle.ultra_format.specs.Decoding.{pick, start, storedCount}
 use Rattle.ultra_format.specs.Plain.{writtenSize}
 use Rattle.ultra_format.specs.Additions.{Addition, bodyGiven, formed, sizeGiven}
 use Rattle.refusals.specs.declared.Answer.{Answer}
-use Rattle.refusals.specs.declared.Answer.the-variants.{Done}
+use Rattle.refusals.specs.declared.Answer.the-variants.{Done, Refused}
 use Rattle.refusals.proofs.Chains.{both-hold}
 use Rattle.ultra_format.proofs.Decoded.{starts, decoded-only}
 use Rattle.ultra_reading.specs.Reading.{headCheck, boundsCheck, usedLength, versionOf, withVersion, readingOf}
@@ -41,19 +41,22 @@ use Rattle.ultra_questions.specs.ByContext.{ByContext}
 use Rattle.ultra_questions.specs.QuestionRefusals.{PassesOn}
 use Rattle.ultra_questions.specs.declared.attributes.AttributeAnswer.{AttributeAnswer}
 use Rattle.ultra_questions.specs.AttributeQuestion.{attributeAnswer}
-use Rattle.ultra_questions.specs.MapQuestion.{mapCopied, mapCopiedBytes, overBytes}
+use Rattle.ultra_questions.specs.MapQuestion.{mapCopiedBytes, overBytes}
+use Rattle.ultra_questions.specs.CommandLineQuestion.{commandLinePart}
 use Rattle.ultra_listing.specs.Listing.{contextLines, refusedLines, linesOf, textListed, listed}
 use Rattle.ultra_questions.proofs.ByContext.{questions-by-context}
 use Rattle.ultra_questions.proofs.QuestionRefusals.{refusals-pass-on}
 use Rattle.ultra_building.specs.Building.{addedAt}
 use Rattle.demand_3.specs.Demand3.{ReadingIs}
 use Rattle.demand_3.proofs.Demand3.{demand-3}
-use Rattle.demand_2.specs.Calls.{membersFormed, membersBody, Call, Reply, lentPart, run}
-use Rattle.demand_2.specs.Calls.{Call.begin, Call.add, Call.addMembers, Call.read, Call.step, Call.askAttribute, Call.askStart, Call.askPart, Call.copyMap, Call.copyMapBytes, Call.askLine, Call.locateLine, Call.askModule, Call.list, Call.askListingLength}
+use Rattle.demand_2.specs.Calls.{membersFormed, membersBody, Write.begin, Write.add, Write.addMembers}
+use Rattle.demand_2.specs.Calls.{Question, Question.read, Question.step, Question.askAttribute, Question.askStart, Question.askPart, Question.copyMap, Question.copyMapBytes}
+use Rattle.demand_2.specs.Calls.{Question.askLine, Question.locateLine, Question.askModule, Question.list, Question.askListingLength}
+use Rattle.demand_2.specs.Calls.{Call, Call.write, Call.ask, Reply, lentPart, replyOf, runWrite, run}
 use Rattle.demand_2.specs.Calls.{Reply.answer, Reply.reading, Reply.stepped, Reply.attribute, Reply.located, Reply.lent, Reply.copied, Reply.number}
 use Rattle.demand_2.specs.CallsFromC.{replyCrossed, AnyCall, inRattle, runAny}
 use Rattle.demand_2.specs.CallsFromC.{AnyCall.fromRattle, AnyCall.fromC}
-use Rattle.demand_2.specs.Model.{contextGiven, membersRefusal, refusalOf, giving, addAnswer, tooFew, stepWithin, stepIn, partIn, mapReply, replyTo, anyReply, attributesGiven}
+use Rattle.demand_2.specs.Model.{contextGiven, membersRefusal, refusalOf, giving, addAnswer, tooFew, stepWithin, stepIn, partIn, repliesIn, replyTo, anyReply, attributesGiven}
 use Rattle.demand_2.specs.Demand2.{Follows, Undetermined}
 use Rattle.demand_2.proofs.Appending.{says-type}
 use Rattle.demand_2.proofs.Following.{says-given, begun-is, long, added-is, used-more, crosses}
@@ -78,6 +81,16 @@ abbrev stepFrom : List ℕ → Cursor → Step
 stepFrom b k =
     stepRefused (cursorCheck b (k .offset)) (k .offset) (stepping.Attribute (headerAt b (k .offset)) (cursorAt (k .index + 1) (k .offset + u32At b (k .offset + 4))))
 
+-- what is answered of a map and of lines
+abbrev copiedOver : List ℕ → Answer × List ℕ → Reply
+copiedOver out r = copied (overBytes out r)
+
+abbrev linesListed : List ℕ → List Line → Reply
+linesListed out ls = copied (textListed (linesBytes ls) out)
+
+abbrev linesCounted : List Line → Reply
+linesCounted ls = number (length (linesBytes ls))
+
 module _ (d : List ℕ) (gs : List Addition) (f : Follows d gs) where
   abbrev now : Context
   now = contextGiven gs
@@ -98,7 +111,7 @@ module _ (d : List ℕ) (gs : List Addition) (f : Follows d gs) where
   head-missing : (fewest : ℕ) → count now < fewest → headCheck fewest d ≡ MISSING
   head-missing fewest l = sym (stop-missing fewest d (head .room) (head .major) (head .most) (omega (arith, counts)))
 
-  missing : (fewest : ℕ) → count now < fewest → usedLength fewest d ≡ tooFew
+  missing : (fewest : ℕ) → count now < fewest → usedLength fewest d ≡ Refused tooFew
   missing fewest l =
       let e = head-missing fewest l in
       sym (head-refuses fewest d (λ z. omega arith)) ∙ ap (λ (n : ℕ). refused n 0) e
@@ -109,7 +122,7 @@ module _ (d : List ℕ) (gs : List Addition) (f : Follows d gs) where
   asked : 2 ≤ count now → ByContext d now
   asked l = questions-by-context d now (held-two l)
 
-  unasked : count now < 2 → PassesOn d tooFew
+  unasked : count now < 2 → PassesOn d (Refused tooFew)
   unasked l = refusals-pass-on d _ (missing 2 l)
 
   -- ---- parts
@@ -128,11 +141,11 @@ module _ (d : List ℕ) (gs : List Addition) (f : Follows d gs) where
   unfolding bytesAt
   no-part l i = rw (unasked l .attributes i)
 
-  no-line : count now < 2 → run askLine d .0 ≡ lent noPart []
-  unfolding run bytesAt
+  no-line : count now < 2 → lentPart d (commandLinePart d) ≡ lent noPart []
+  unfolding bytesAt
   no-line l = rw (unasked l .line)
 
-  reading-few : count now < 2 → readingOf d ≡ withVersion (versionOf d) tooFew
+  reading-few : count now < 2 → readingOf d ≡ withVersion (versionOf d) (Refused tooFew)
   unfolding readingOf
   reading-few l = rw (missing 2 l)
 
@@ -146,7 +159,7 @@ module _ (d : List ℕ) (gs : List Addition) (f : Follows d gs) where
   start-eights (suc i) l = omega (arith, start-eights i (omega arith), accepts .each i l .bounds .eights)
 
   -- where a step's answer is determined, its cursor lies within the list or falls to a test that looks at no byte
-  step-within : (k : Cursor) → 2 ≤ count now → k .index < count now → (Undetermined (roomOf d) now (step k) → ⊥)
+  step-within : (k : Cursor) → 2 ≤ count now → k .index < count now → (Undetermined (roomOf d) now (ask (step k)) → ⊥)
       → stepFrom d k ≡ stepWithin (roomOf d) (written now) k
   unfolding cursorCheck boundsCheck
   step-within k two l n = go (leb 8 (k .offset) && eqb (k .offset % 8) 0) (leb (k .offset + 8) (roomOf d)) refl refl
@@ -169,51 +182,59 @@ module _ (d : List ℕ) (gs : List Addition) (f : Follows d gs) where
           below : (m n : ℕ) → (n ≤ m → ⊥) → m < n
           below m n h = omega arith
 
-  step-given : (k : Cursor) → (Undetermined (roomOf d) now (step k) → ⊥) → stepOf d k ≡ stepIn (roomOf d) now k
+  step-enough : (k : Cursor) → 2 ≤ count now → (Undetermined (roomOf d) now (ask (step k)) → ⊥) → stepOf d k ≡ stepIn (roomOf d) now k
   unfolding stepOf
-  step-given k n = by-count now 2 (λ l. rw (head-enough 2 l, counts) (go l (leb (count now) (k .index)) refl)) (λ l. rw (head-missing 2 l))
+  step-enough k two n = rw (head-enough 2 two, counts) (go (leb (count now) (k .index)) refl)
     where
-      go : 2 ≤ count now → (t : Bool) → leb (count now) (k .index) ≡ t
-          → pick t stepping.End (stepFrom d k) ≡ pick t stepping.End (stepWithin (roomOf d) (written now) k)
-      go two true e = refl
-      go two false e = step-within k two (leb-false (count now) (k .index) e) n
+      go : (t : Bool) → leb (count now) (k .index) ≡ t → pick t stepping.End (stepFrom d k) ≡ pick t stepping.End (stepWithin (roomOf d) (written now) k)
+      go true e = refl
+      go false e = step-within k two (leb-false (count now) (k .index) e) n
+
+  step-few : (k : Cursor) → count now < 2 → stepOf d k ≡ stepping.Refused tooFew
+  unfolding stepOf
+  step-few k l = rw (head-missing 2 l)
 
   -- ---- the listing
-  listed-given : linesOf d ≡ pick (leb 2 (count now)) (contextLines now) (refusedLines (refusal MISSING 0))
+  lines-enough : 2 ≤ count now → linesOf d ≡ contextLines now
   unfolding linesOf
-  listed-given =
-      by-count now 2
-      (λ l. rw (complete 2 d now (enough-meets 2 l) (f .held .1)) (ap contextLines (sym (decoded-only 2 (roomOf d) d now (enough-meets 2 l) (f .held .1)))))
-      (λ l. rw (missing 2 l))
+  lines-enough l =
+      rw (complete 2 d now (enough-meets 2 l) (f .held .1)) (ap contextLines (sym (decoded-only 2 (roomOf d) d now (enough-meets 2 l) (f .held .1))))
+
+  lines-few : count now < 2 → linesOf d ≡ refusedLines tooFew
+  unfolding linesOf
+  lines-few l = rw (missing 2 l)
+
+  -- ---- every question, with two attributes or more, and with fewer
+  by-context : (q : Question) → (Undetermined (roomOf d) now (ask q) → ⊥)
+      → (2 ≤ count now → replyOf q d ≡ repliesIn (roomOf d) now tooFew q .0) × (count now < 2 → replyOf q d ≡ repliesIn (roomOf d) now tooFew q .1)
+  unfolding replyOf repliesIn mapCopiedBytes listed
+  by-context read n = (λ l. ap reading (held-reading d now (held-two l)), λ l. ap reading (reading-few l))
+  by-context (step k) n = (λ l. ap stepped (step-enough k l n), λ l. ap stepped (step-few k l))
+  by-context (askAttribute i) n = (λ l. ap attribute (asked l .attributes i), λ l. ap attribute (unasked l .attributes i))
+  by-context (askStart i) n = (λ l. ap answer (asked l .starts i), λ l. ap answer (unasked l .starts i))
+  by-context (askPart i) n = (λ l. part-given l i, λ l. no-part l i)
+  by-context (copyMap out) n = (λ l. ap copied (asked l .maps out), λ l. ap copied (unasked l .maps out))
+  by-context (copyMapBytes out) n = (λ l. ap (copiedOver out) (asked l .maps (numbersIn out)), λ l. ap (copiedOver out) (unasked l .maps (numbersIn out)))
+  by-context askLine n = (λ l. ap₂ lent (asked l .line) (asked l .text), no-line)
+  by-context locateLine n = (λ l. ap located (asked l .line), λ l. ap located (unasked l .line))
+  by-context (askModule a) n = (λ l. ap answer (asked l .modules a), λ l. ap answer (unasked l .modules a))
+  by-context (list out) n = (λ l. ap (linesListed out) (lines-enough l), λ l. ap (linesListed out) (lines-few l))
+  by-context askListingLength n = (λ l. ap linesCounted (lines-enough l), λ l. ap linesCounted (lines-few l))
 
   -- ---- every call
   add-reply : (x : Body) (g : Addition) → writtenSize x ≡ sizeGiven g → (n : ℕ) → addedAt d x (orRefused n (used now) (Done (used now))) .0 ≡ addAnswer n gs g
   add-reply x g e zero = ap Done (ap (λ (s : ℕ). used now + s) e ∙ sym (used-more gs g))
   add-reply x g e (suc n) = refl
 
-  map-reply : (out : List ℕ) → mapCopied d out ≡ mapReply now out
-  map-reply out = by-count now 2 (λ l. asked l .maps out) (λ l. unasked l .maps out)
-
   pub replies-by-list : (k : Call) → (Undetermined (roomOf d) now k → ⊥) → run k d .0 ≡ replyTo (roomOf d) k gs
-  unfolding run replyTo total attributesGiven mapCopiedBytes listed
-  replies-by-list begin n = ap (λ (r : Answer × List ℕ). answer (r .0)) (begun-is d (long d gs f))
-  replies-by-list (add g) n =
+  unfolding runWrite replyTo total attributesGiven
+  replies-by-list (ask q) n = by-count now 2 (by-context q n .0) (by-context q n .1)
+  replies-by-list (write begin) n = ap (λ (r : Answer × List ℕ). answer (r .0)) (begun-is d (long d gs f))
+  replies-by-list (write (add g)) n =
       ap (λ (r : Answer × List ℕ). answer (r .0)) (added-is d gs f (formed g) (bodyGiven g)) ∙ ap answer (add-reply (bodyGiven g) g refl (refusalOf (roomOf d) gs g))
-  replies-by-list (addMembers m) n =
+  replies-by-list (write (addMembers m)) n =
       ap (λ (r : Answer × List ℕ). answer (r .0)) (added-is d gs f (membersFormed m) (membersBody m))
       ∙ ap answer (add-reply (membersBody m) (giving (membersBody m)) (sym (members-size m)) (membersRefusal (roomOf d) gs (membersFormed m) (membersBody m)))
-  replies-by-list read n = ap reading (by-count now 2 (λ l. held-reading d now (held-two l)) reading-few)
-  replies-by-list (step k) n = ap stepped (step-given k n)
-  replies-by-list (askAttribute i) n = ap attribute (by-count now 2 (λ l. asked l .attributes i) (λ l. unasked l .attributes i))
-  replies-by-list (askStart i) n = ap answer (by-count now 2 (λ l. asked l .starts i) (λ l. unasked l .starts i))
-  replies-by-list (askPart i) n = by-count now 2 (λ l. part-given l i) (λ l. no-part l i)
-  replies-by-list (copyMap out) n = ap copied (map-reply out)
-  replies-by-list (copyMapBytes out) n = ap (λ (r : Answer × List ℕ). copied (overBytes out r)) (map-reply (numbersIn out))
-  replies-by-list askLine n = by-count now 2 (λ l. ap₂ lent (asked l .line) (asked l .text)) no-line
-  replies-by-list locateLine n = ap located (by-count now 2 (λ l. asked l .line) (λ l. unasked l .line))
-  replies-by-list (askModule a) n = ap answer (by-count now 2 (λ l. asked l .modules a) (λ l. unasked l .modules a))
-  replies-by-list (list out) n = ap (λ (ls : List Line). copied (textListed (linesBytes ls) out)) listed-given
-  replies-by-list askListingLength n = ap (λ (ls : List Line). number (length (linesBytes ls))) listed-given
 
   -- from Rattle or from C
   pub any-reply : (k : AnyCall) → (Undetermined (roomOf d) now (inRattle k) → ⊥) → runAny k d .0 ≡ anyReply (roomOf d) k gs

@@ -14,7 +14,7 @@ use Rattle.ultra_format.specs.Additions.{Addition}
 use Rattle.ultra_format.proofs.Witness.{listed-meets, listed-opens, listed-plain, six-types-meets, six-types-opens, six-types-plain}
 use Rattle.ultra_questions.specs.MapQuestion.{numbers}
 use Rattle.ultra_acceptance.specs.Acceptance.{HoldsContext}
-use Rattle.demand_2.specs.Calls.{run}
+use Rattle.demand_2.specs.Calls.{runWrite}
 use Rattle.demand_2.specs.CallsFromC.{after}
 use Rattle.demand_2.specs.Model.{giving}
 use Rattle.demand_2.specs.Demand2.{recordAt, recordsBack, adds, rebuilding}
@@ -30,7 +30,7 @@ module _ (bytes : List ℕ) (c : Context) (n : ℕ) (h : HoldsContext 2 bytes c)
   room b e = omega (arith, h .0 .within)
 
   again : (b : List ℕ) → length b ≡ n → after (rebuilding bytes (count c)) b ≡ bytes
-  unfolding after run
+  unfolding after runWrite
   again b e =
       let r = after (rebuilding bytes (count c)) b in
       let t = demand-2 .sameLength b (adds (recordsBack bytes (count c))) (demand-2 .begins b (omega (arith, room b e)) .0) (typed-back bytes c h p) in

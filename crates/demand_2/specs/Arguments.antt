@@ -3,7 +3,6 @@
 -- Assumes nothing.
 use Prim.Native.Nat.{ℕ, _<_, _^_}
 use mathlib.Core.Path.{_≡_}
-use mathlib.Core.Logic.{_⊎_}
 use mathlib.Core.List.{List, [], _∷_}
 use lib.ListN.{length}
 use Rattle.byte_layout.specs.Stored.{Bytes}
@@ -17,8 +16,8 @@ use Rattle.ultra_format.specs.declared.records.OptionalU64.{OptionalU64}
 use Rattle.ultra_format.specs.declared.records.OptionalU64.the-variants as wide
 use Rattle.ultra_format.specs.declared.records.OptionalU8.{OptionalU8}
 use Rattle.ultra_format.specs.declared.records.OptionalU8.the-variants as narrow
-use Rattle.demand_2.specs.Calls.{Members, Call}
-use Rattle.demand_2.specs.Calls.{Members.platformMembers, Members.kernelMembers, Members.mapMembers, Members.moduleMembers, Call.add, Call.addMembers}
+use Rattle.demand_2.specs.Calls.{Members, Members.platformMembers, Members.kernelMembers, Members.mapMembers, Members.moduleMembers}
+use Rattle.demand_2.specs.Calls.{Call, Call.write, Call.ask, Write.begin, Write.add, Write.addMembers}
 use Rattle.demand_2.specs.CallsFromC.{AnyCall, inRattle}
 
 -- ---- records, numbers and texts
@@ -113,13 +112,14 @@ MembersTyped (kernelMembers physical virtual size partitionType disk partition d
 MembersTyped (mapMembers entries) = Bytes entries
 MembersTyped (moduleMembers kind name address size) = (kind < 2 ^ 32) × Bytes name × (address < 2 ^ 64) × (size < 2 ^ 64)
 
--- ---- calls
--- a call is among calls
-unfoldable pub Among : AnyCall → List AnyCall → Type 0
-Among k [] = ⊥
-Among k (j ∷ js) = (k ≡ j) ⊎ Among k js
+-- ---- calls: of a question nothing is asked, and nothing of a beginning
+abbrev pub CallTyped : Call → Type 0
+CallTyped (ask q) = Unit {0}
+CallTyped (write begin) = Unit {0}
+CallTyped (write (add g)) = AdditionTyped g
+CallTyped (write (addMembers m)) = MembersTyped m
 
--- whatever add is among the calls, from Rattle or from C, is given arguments of their types. No other call is spoken of.
-pub record AllTyped (ks : List AnyCall) : Type 0 where
-  pub records : (k : AnyCall) (g : Addition) → Among k ks → inRattle k ≡ add g → AdditionTyped g
-  pub members : (k : AnyCall) (m : Members) → Among k ks → inRattle k ≡ addMembers m → MembersTyped m
+-- calls in a row, from Rattle or from C
+unfoldable pub AllTyped : List AnyCall → Type 0
+AllTyped [] = Unit {0}
+AllTyped (k ∷ ks) = CallTyped (inRattle k) × AllTyped ks

@@ -45,38 +45,46 @@ membersBody (kernelMembers physical virtual size partitionType disk partition di
 membersBody (mapMembers entries) = mapOf entries
 membersBody (moduleMembers kind name address size) = moduleOf kind name address size
 
--- each call, with what it is given beside the buffer; the comment before a case names the calls that it stands for
-pub data Call : Type 0 where
+-- ---- the calls, each with what it is given beside the buffer; the comment before a case names the calls that it stands for
+-- those that write: they are lent the buffer to write
+pub data Write : Type 0 where
   -- `ultra_building::begin`
-  begin : Call
+  begin : Write
   -- `ultra_building::add_platform`, `add_kernel`, `add_map`, `add_module`, `add_command_line`, `add_framebuffer`
-  add : Addition → Call
+  add : Addition → Write
   -- `ultra_building::members::add_platform`, `add_kernel`, `add_map`, `add_module`
-  addMembers : Members → Call
+  addMembers : Members → Write
+
+-- those that ask: they are lent the buffer to read
+pub data Question : Type 0 where
   -- `ultra_reading::read`
-  read : Call
+  read : Question
   -- `Cursor::step`
-  step : Cursor → Call
+  step : Cursor → Question
   -- `ultra_questions::attribute`
-  askAttribute : ℕ → Call
+  askAttribute : ℕ → Question
   -- `ultra_questions::attribute_start`
-  askStart : ℕ → Call
+  askStart : ℕ → Question
   -- `ultra_questions::attribute_part`
-  askPart : ℕ → Call
+  askPart : ℕ → Question
   -- `ultra_questions::copy_map`
-  copyMap : List ℕ → Call
+  copyMap : List ℕ → Question
   -- `ultra_questions::copy_map_bytes`
-  copyMapBytes : List ℕ → Call
+  copyMapBytes : List ℕ → Question
   -- `ultra_questions::command_line`
-  askLine : Call
+  askLine : Question
   -- `ultra_questions::command_line_part`
-  locateLine : Call
+  locateLine : Question
   -- `ultra_questions::module_holding`
-  askModule : ℕ → Call
+  askModule : ℕ → Question
   -- `ultra_listing::list`
-  list : List ℕ → Call
+  list : List ℕ → Question
   -- `ultra_listing::listing_length`
-  askListingLength : Call
+  askListingLength : Question
+
+pub data Call : Type 0 where
+  write : Write → Call
+  ask : Question → Call
 
 -- what a call gives back. A part of the buffer is told by where it is and by its bytes; `copied` has the lent output too.
 pub data Reply : Type 0 where
@@ -98,20 +106,28 @@ lentPart b p = lent p (bytesAt b (p .start) (p .length))
 abbrev pub answerAnd : Answer × List ℕ → Reply × List ℕ
 answerAnd r = (answer (r .0), r .1)
 
--- a call on a buffer: its reply, and the buffer afterwards. Beginning and adding alone are lent the buffer to write.
-unfoldable pub run : Call → List ℕ → Reply × List ℕ
-run begin b = answerAnd (begun b)
-run (add g) b = answerAnd (added b g)
-run (addMembers m) b = answerAnd (addedMembers b (membersFormed m) (membersBody m))
-run read b = (reading (readingOf b), b)
-run (step k) b = (stepped (stepOf b k), b)
-run (askAttribute i) b = (attribute (attributeAnswer b i), b)
-run (askStart i) b = (answer (attributeStart b i), b)
-run (askPart i) b = (lentPart b (attributeAnswer b i .part), b)
-run (copyMap out) b = (copied (mapCopied b out), b)
-run (copyMapBytes out) b = (copied (mapCopiedBytes b out), b)
-run askLine b = (lentPart b (commandLinePart b), b)
-run locateLine b = (located (commandLinePart b), b)
-run (askModule a) b = (answer (moduleHolding b a), b)
-run (list out) b = (copied (listed b out), b)
-run askListingLength b = (number (length (listing b)), b)
+-- what a call that writes answers, and the buffer afterwards
+unfoldable pub runWrite : Write → List ℕ → Reply × List ℕ
+runWrite begin b = answerAnd (begun b)
+runWrite (add g) b = answerAnd (added b g)
+runWrite (addMembers m) b = answerAnd (addedMembers b (membersFormed m) (membersBody m))
+
+-- what a question answers, by the buffer alone
+unfoldable pub replyOf : Question → List ℕ → Reply
+replyOf read b = reading (readingOf b)
+replyOf (step k) b = stepped (stepOf b k)
+replyOf (askAttribute i) b = attribute (attributeAnswer b i)
+replyOf (askStart i) b = answer (attributeStart b i)
+replyOf (askPart i) b = lentPart b (attributeAnswer b i .part)
+replyOf (copyMap out) b = copied (mapCopied b out)
+replyOf (copyMapBytes out) b = copied (mapCopiedBytes b out)
+replyOf askLine b = lentPart b (commandLinePart b)
+replyOf locateLine b = located (commandLinePart b)
+replyOf (askModule a) b = answer (moduleHolding b a)
+replyOf (list out) b = copied (listed b out)
+replyOf askListingLength b = number (length (listing b))
+
+-- a call on a buffer: its reply, and the buffer afterwards. A question leaves it as it is.
+abbrev pub run : Call → List ℕ → Reply × List ℕ
+run (write w) b = runWrite w b
+run (ask q) b = (replyOf q b, b)

@@ -15,63 +15,87 @@ use Rattle.ultra_questions.specs.ModuleQuestion.{moduleHolding}
 use Rattle.ultra_building.specs.Building.{begun, addedMembers}
 use Rattle.ultra.specs.Crossing.{answerCrossed, stepCrossed, readingCrossed, partCrossed, crossed}
 use Rattle.demand_2.specs.Calls.{Members.platformMembers, Members.kernelMembers, Members.mapMembers, Members.moduleMembers}
-use Rattle.demand_2.specs.Calls.{Call, run, Call.begin, Call.add, Call.addMembers, Call.read, Call.step, Call.askStart, Call.copyMapBytes, Call.locateLine, Call.askModule}
+use Rattle.demand_2.specs.Calls.{Write, Write.begin, Write.add, Write.addMembers}
+use Rattle.demand_2.specs.Calls.{Question, Question.read, Question.step, Question.askStart, Question.copyMapBytes, Question.locateLine, Question.askModule}
+use Rattle.demand_2.specs.Calls.{Call, run, Call.write, Call.ask}
 use Rattle.demand_2.specs.Calls.{Reply, Reply.answer, Reply.reading, Reply.stepped, Reply.attribute, Reply.located, Reply.lent, Reply.copied, Reply.number, Reply.numberCopied}
 
+-- ---- the calls: those that write, and those that ask
+pub data WriteFromC : Type 0 where
+  ultraBegin : WriteFromC
+  ultraAddPlatform : (kind major minor : ℕ) (name : List ℕ) (rsdp base depth dtb smbios : ℕ) → WriteFromC
+  ultraAddKernel : (physical virtual size partitionType : ℕ) (disk partition : List ℕ) (diskIndex partitionIndex : ℕ) (path : List ℕ) → WriteFromC
+  ultraAddMap : (entries : List ℕ) → WriteFromC
+  ultraAddModule : (kind : ℕ) (name : List ℕ) (address size : ℕ) → WriteFromC
+  ultraAddCommandLine : (text : List ℕ) → WriteFromC
+  ultraAddFramebuffer : (width height pitch bpp format address : ℕ) → WriteFromC
+
+pub data QuestionFromC : Type 0 where
+  ultraRead : QuestionFromC
+  ultraStep : (index offset : ℕ) → QuestionFromC
+  ultraAttribute : (index : ℕ) → QuestionFromC
+  ultraCopyMap : (out : List ℕ) → QuestionFromC
+  ultraCommandLine : QuestionFromC
+  ultraModuleHolding : (address : ℕ) → QuestionFromC
+
 pub data CallFromC : Type 0 where
-  ultraRead : CallFromC
-  ultraStep : (index offset : ℕ) → CallFromC
-  ultraAttribute : (index : ℕ) → CallFromC
-  ultraCopyMap : (out : List ℕ) → CallFromC
-  ultraCommandLine : CallFromC
-  ultraModuleHolding : (address : ℕ) → CallFromC
-  ultraBegin : CallFromC
-  ultraAddPlatform : (kind major minor : ℕ) (name : List ℕ) (rsdp base depth dtb smbios : ℕ) → CallFromC
-  ultraAddKernel : (physical virtual size partitionType : ℕ) (disk partition : List ℕ) (diskIndex partitionIndex : ℕ) (path : List ℕ) → CallFromC
-  ultraAddMap : (entries : List ℕ) → CallFromC
-  ultraAddModule : (kind : ℕ) (name : List ℕ) (address size : ℕ) → CallFromC
-  ultraAddCommandLine : (text : List ℕ) → CallFromC
-  ultraAddFramebuffer : (width height pitch bpp format address : ℕ) → CallFromC
+  writeFromC : WriteFromC → CallFromC
+  askFromC : QuestionFromC → CallFromC
 
 abbrev pub numberAnd : ℕ × List ℕ → Reply × List ℕ
 numberAnd r = (number (r .0), r .1)
 
--- a call on a buffer: its reply, and the buffer afterwards
-unfoldable pub runFromC : CallFromC → List ℕ → Reply × List ℕ
-runFromC ultraRead b = (number (readingCrossed (readingOf b)), b)
-runFromC (ultraStep index offset) b = (number (stepCrossed (stepOf b (cursorAt index offset))), b)
-runFromC (ultraAttribute index) b = (number (answerCrossed (attributeStart b index)), b)
-runFromC (ultraCopyMap out) b = (numberCopied (crossed (mapCopiedBytes b out)), b)
-runFromC ultraCommandLine b = (number (partCrossed (commandLinePart b)), b)
-runFromC (ultraModuleHolding address) b = (number (answerCrossed (moduleHolding b address)), b)
-runFromC ultraBegin b = numberAnd (crossed (begun b))
-runFromC (ultraAddPlatform kind major minor name rsdp base depth dtb smbios) b =
+-- what a call that writes answers, and the buffer afterwards
+unfoldable pub runWriteFromC : WriteFromC → List ℕ → Reply × List ℕ
+runWriteFromC ultraBegin b = numberAnd (crossed (begun b))
+runWriteFromC (ultraAddPlatform kind major minor name rsdp base depth dtb smbios) b =
     numberAnd (crossed (addedMembers b true (platformOf kind major minor name rsdp base depth dtb smbios)))
-runFromC (ultraAddKernel physical virtual size partitionType disk partition diskIndex partitionIndex path) b =
+runWriteFromC (ultraAddKernel physical virtual size partitionType disk partition diskIndex partitionIndex path) b =
     numberAnd (crossed (addedMembers b (guidsFormed disk partition) (kernelOf physical virtual size partitionType disk partition diskIndex partitionIndex path)))
-runFromC (ultraAddMap entries) b = numberAnd (crossed (addedMembers b (mapFormed entries) (mapOf entries)))
-runFromC (ultraAddModule kind name address size) b = numberAnd (crossed (addedMembers b true (moduleOf kind name address size)))
-runFromC (ultraAddCommandLine text) b = numberAnd (crossed (addedMembers b true (commandLine text)))
-runFromC (ultraAddFramebuffer width height pitch bpp format address) b =
+runWriteFromC (ultraAddMap entries) b = numberAnd (crossed (addedMembers b (mapFormed entries) (mapOf entries)))
+runWriteFromC (ultraAddModule kind name address size) b = numberAnd (crossed (addedMembers b true (moduleOf kind name address size)))
+runWriteFromC (ultraAddCommandLine text) b = numberAnd (crossed (addedMembers b true (commandLine text)))
+runWriteFromC (ultraAddFramebuffer width height pitch bpp format address) b =
     numberAnd (crossed (addedMembers b true (framebufferOf width height pitch bpp format address)))
 
+-- what a question answers, by the buffer alone
+unfoldable pub replyFromC : QuestionFromC → List ℕ → Reply
+replyFromC ultraRead b = number (readingCrossed (readingOf b))
+replyFromC (ultraStep index offset) b = number (stepCrossed (stepOf b (cursorAt index offset)))
+replyFromC (ultraAttribute index) b = number (answerCrossed (attributeStart b index))
+replyFromC (ultraCopyMap out) b = numberCopied (crossed (mapCopiedBytes b out))
+replyFromC ultraCommandLine b = number (partCrossed (commandLinePart b))
+replyFromC (ultraModuleHolding address) b = number (answerCrossed (moduleHolding b address))
+
+-- a call on a buffer: its reply, and the buffer afterwards
+abbrev pub runFromC : CallFromC → List ℕ → Reply × List ℕ
+runFromC (writeFromC w) b = runWriteFromC w b
+runFromC (askFromC q) b = (replyFromC q b, b)
+
 -- ---- the call from Rattle that it is. "Every member is given": a platform from C is complete.
-abbrev pub asked : CallFromC → Call
-asked ultraRead = read
-asked (ultraStep index offset) = step (cursorAt index offset)
-asked (ultraAttribute index) = askStart index
-asked (ultraCopyMap out) = copyMapBytes out
-asked ultraCommandLine = locateLine
-asked (ultraModuleHolding address) = askModule address
-asked ultraBegin = begin
-asked (ultraAddPlatform kind major minor name rsdp base depth dtb smbios) = addMembers (platformMembers true kind major minor name rsdp base depth dtb smbios)
-asked (ultraAddKernel physical virtual size partitionType disk partition diskIndex partitionIndex path) =
+abbrev pub writeAsked : WriteFromC → Write
+writeAsked ultraBegin = begin
+writeAsked (ultraAddPlatform kind major minor name rsdp base depth dtb smbios) =
+    addMembers (platformMembers true kind major minor name rsdp base depth dtb smbios)
+writeAsked (ultraAddKernel physical virtual size partitionType disk partition diskIndex partitionIndex path) =
     addMembers (kernelMembers physical virtual size partitionType disk partition diskIndex partitionIndex path)
-asked (ultraAddMap entries) = addMembers (mapMembers entries)
-asked (ultraAddModule kind name address size) = addMembers (moduleMembers kind name address size)
-asked (ultraAddCommandLine text) = add (addCommandLine text)
-asked (ultraAddFramebuffer width height pitch bpp format address) =
+writeAsked (ultraAddMap entries) = addMembers (mapMembers entries)
+writeAsked (ultraAddModule kind name address size) = addMembers (moduleMembers kind name address size)
+writeAsked (ultraAddCommandLine text) = add (addCommandLine text)
+writeAsked (ultraAddFramebuffer width height pitch bpp format address) =
     add (addFramebuffer (record { width = width; height = height; pitch = pitch; bpp = bpp; format = format; address = address }))
+
+abbrev pub questionAsked : QuestionFromC → Question
+questionAsked ultraRead = read
+questionAsked (ultraStep index offset) = step (cursorAt index offset)
+questionAsked (ultraAttribute index) = askStart index
+questionAsked (ultraCopyMap out) = copyMapBytes out
+questionAsked ultraCommandLine = locateLine
+questionAsked (ultraModuleHolding address) = askModule address
+
+abbrev pub asked : CallFromC → Call
+asked (writeFromC w) = write (writeAsked w)
+asked (askFromC q) = ask (questionAsked q)
 
 -- its reply as one number; records and slices do not cross
 abbrev pub replyCrossed : Reply → Reply

@@ -38,9 +38,8 @@ use Rattle.ultra_questions.specs.AttributeQuestion.{unanswered, attributeAnswer
 use Rattle.words.specs.Words.{numbersAt}
 use Rattle.ultra_building.specs.Building.{begun, added}
 use Rattle.demand_3.specs.Demand3.{partAt}
-use Rattle.demand_2.specs.Calls.{Members, membersBody, Call, Reply, run}
-use Rattle.demand_2.specs.Calls.{Call.begin, Call.add, Call.addMembers, Call.step}
-use Rattle.demand_2.specs.Calls.{Reply.answer}
+use Rattle.demand_2.specs.Calls.{Members, membersBody, Write.begin, Write.add, Write.addMembers, Question.step}
+use Rattle.demand_2.specs.Calls.{Call, Call.write, Call.ask, Reply, Reply.answer, runWrite, run}
 use Rattle.demand_2.specs.CallsFromC.{CallFromC, runFromC, asked, replyCrossed, AnyCall, inRattle, runAny, after, replies}
 use Rattle.demand_2.specs.CallsFromC.{AnyCall.fromRattle}
 use Rattle.demand_2.specs.Arguments.{AdditionTyped, MembersTyped, AllTyped}
@@ -62,7 +61,7 @@ pub record Follows (b : List ℕ) (gs : List Addition) : Type 0 where
 -- are silent. (Its contract says what it answers.)
 abbrev pub Undetermined : ℕ → Context → Call → Type 0
 Undetermined room c k =
-    (j : Cursor) × (k ≡ step j) × (2 ≤ count c) × (j .index < count c) × (used c ≤ j .offset) × (j .offset + 8 ≤ room) × (j .offset % 8 ≡ 0)
+    (j : Cursor) × (k ≡ ask (step j)) × (2 ≤ count c) × (j .index < count c) × (used c ≤ j .offset) × (j .offset + 8 ≤ room) × (j .offset % 8 ≡ 0)
 
 -- ---- reading back
 -- what an answer to the attribute question, with the bytes of its part, gives to an add; nothing for a type from 7 up
@@ -96,12 +95,12 @@ recordsBack b (suc n) = recordsBack b n ++ recordAt b n
 
 unfoldable pub adds : List Addition → List AnyCall
 adds [] = []
-adds (g ∷ gs) = fromRattle (add g) ∷ adds gs
+adds (g ∷ gs) = fromRattle (write (add g)) ∷ adds gs
 
 -- "built again from its reading": a beginning, and an add of each record that was answered. From the count on none is: the reading itself
 -- says where it ends
 abbrev pub rebuilding : List ℕ → ℕ → List AnyCall
-rebuilding b n = fromRattle begin ∷ adds (recordsBack b n)
+rebuilding b n = fromRattle (write begin) ∷ adds (recordsBack b n)
 
 -- a beginning or an add that was not refused: its number is 0
 abbrev pub Succeeded : Reply → Type 0
@@ -131,7 +130,7 @@ pub record Appended (b : List ℕ) (c : Context) (g : Addition) (d : List ℕ) (
 abbrev pub AsRecord : List ℕ → Members → Type 0
 AsRecord b m =
     let g = giving (membersBody m) in
-    ((r : Refusal) × (run (addMembers m) b ≡ (answer (Refused r), b))) ⊎ (AdditionTyped g × (bodyGiven g ≡ membersBody m) × (run (addMembers m) b ≡ run (add g) b))
+    ((r : Refusal) × (runWrite (addMembers m) b ≡ (answer (Refused r), b))) ⊎ (AdditionTyped g × (bodyGiven g ≡ membersBody m) × (runWrite (addMembers m) b ≡ runWrite (add g) b))
 
 -- ---- the demand
 -- b is a buffer whose beginning is accepted; ks are any calls after it
@@ -163,8 +162,8 @@ pub record Demand2 : Type 0 where
   pub crosses : (b : List ℕ) (k : CallFromC) → runFromC k b ≡ (replyCrossed (run (asked k) b .0), run (asked k) b .1)
   -- "records given cross as numbers and byte slices", in any buffer
   pub members : (b : List ℕ) (m : Members) → MembersTyped m → AsRecord b m
-  -- "or is refused": a beginning or an add that is refused leaves every byte, in any buffer, and so does a question that answers an
-  -- `Answer`; every other call is lent the buffer to read alone (`run`)
+  -- "or is refused": a beginning or an add that is refused leaves every byte, in any buffer. A question leaves them whatever it answers
+  -- (`run`)
   pub refusals : (b : List ℕ) (k : Call) (a : Answer) → run k b .0 ≡ answer a → (numberOf a ≡ 0 → ⊥) → run k b .1 ≡ b
   -- beyond the order: adding to any buffer that holds a context, also one that another writer began, appends exactly the attribute given
   pub appends : (b : List ℕ) (c : Context) (g : Addition) (n : ℕ) → HoldsContext 0 b c → AdditionTyped g → added b g .0 ≡ Done n → Appended b c g (added b g .1) n

@@ -18,6 +18,7 @@ use Rattle.ultra_format.specs.Plain.{writtenSize}
 use Rattle.ultra_format.specs.Records.{platformRecord, kernelRecord, moduleRecord, framebufferRecord}
 use Rattle.ultra_format.specs.Additions.{Addition, typeGiven, attributeGiven, bodyGiven, formed, givenCheck}
 use Rattle.ultra_format.specs.Additions.{Addition.addPlatform, Addition.addKernel, Addition.addMap, Addition.addModule, Addition.addCommandLine, Addition.addFramebuffer}
+use Rattle.refusals.specs.declared.Refusal.{Refusal}
 use Rattle.refusals.specs.declared.Answer.{Answer}
 use Rattle.refusals.specs.declared.Answer.the-variants.{Done, Refused}
 use Rattle.ultra_reading.specs.Reading.{boundsCheck}
@@ -34,8 +35,10 @@ use Rattle.ultra_questions.specs.CommandLineQuestion.{commandLineIn, textIn}
 use Rattle.ultra_questions.specs.ModuleQuestion.{moduleIn}
 use Rattle.ultra_building.specs.Building.{appendCheck}
 use Rattle.ultra_listing.specs.Listing.{contextLines, refusedLines, textListed}
-use Rattle.demand_2.specs.Calls.{Members, membersFormed, membersBody, Call, Reply}
-use Rattle.demand_2.specs.Calls.{Call.begin, Call.add, Call.addMembers, Call.read, Call.step, Call.askAttribute, Call.askStart, Call.askPart, Call.copyMap, Call.copyMapBytes, Call.askLine, Call.locateLine, Call.askModule, Call.list, Call.askListingLength}
+use Rattle.demand_2.specs.Calls.{membersFormed, membersBody, Write.begin, Write.add, Write.addMembers}
+use Rattle.demand_2.specs.Calls.{Question, Question.read, Question.step, Question.askAttribute, Question.askStart, Question.askPart, Question.copyMap, Question.copyMapBytes}
+use Rattle.demand_2.specs.Calls.{Question.askLine, Question.locateLine, Question.askModule, Question.list, Question.askListingLength}
+use Rattle.demand_2.specs.Calls.{Call, Call.write, Call.ask, Reply}
 use Rattle.demand_2.specs.Calls.{Reply.answer, Reply.reading, Reply.stepped, Reply.attribute, Reply.located, Reply.lent, Reply.copied, Reply.number}
 use Rattle.demand_2.specs.CallsFromC.{asked, replyCrossed, AnyCall, inRattle}
 use Rattle.demand_2.specs.CallsFromC.{AnyCall.fromRattle, AnyCall.fromC}
@@ -84,34 +87,16 @@ addAnswer (suc n) gs g = refused (suc n) (used (contextGiven gs))
 
 -- ---- what a call does to the list
 abbrev pub listAfter : ℕ → Call → List Addition → List Addition
-listAfter room begin gs = []
-listAfter room (add g) gs = appended (refusalOf room gs g) gs g
-listAfter room (addMembers m) gs = appended (membersRefusal room gs (membersFormed m) (membersBody m)) gs (giving (membersBody m))
-listAfter room read gs = gs
-listAfter room (step k) gs = gs
-listAfter room (askAttribute i) gs = gs
-listAfter room (askStart i) gs = gs
-listAfter room (askPart i) gs = gs
-listAfter room (copyMap out) gs = gs
-listAfter room (copyMapBytes out) gs = gs
-listAfter room askLine gs = gs
-listAfter room locateLine gs = gs
-listAfter room (askModule a) gs = gs
-listAfter room (list out) gs = gs
-listAfter room askListingLength gs = gs
+listAfter room (ask q) gs = gs
+listAfter room (write begin) gs = []
+listAfter room (write (add g)) gs = appended (refusalOf room gs g) gs g
+listAfter room (write (addMembers m)) gs = appended (membersRefusal room gs (membersFormed m) (membersBody m)) gs (giving (membersBody m))
 
 unfoldable pub listAfterAll : ℕ → List AnyCall → List Addition → List Addition
 listAfterAll room [] gs = gs
 listAfterAll room (k ∷ ks) gs = listAfterAll room ks (listAfter room (inRattle k) gs)
 
--- ---- what a call answers by the list
--- "count below 2", with offset 0; with two or more what the context says
-abbrev pub ifTwo : {X : Type 0} → Context → X → X → X
-ifTwo c x missing = pick (leb 2 (count c)) x missing
-
-abbrev pub tooFew : Answer
-tooFew = refused MISSING 0
-
+-- ---- what a question answers by a context
 -- a step from a cursor within the list: the tests of 5 to 8 on the bytes that the list is written in
 abbrev pub stepWithin : ℕ → List ℕ → Cursor → Step
 stepWithin room w k =
@@ -119,35 +104,38 @@ stepWithin room w k =
     (stepping.Attribute (headerAt w (k .offset)) (cursorAt (k .index + 1) (k .offset + u32At w (k .offset + 4))))
 
 abbrev pub stepIn : ℕ → Context → Cursor → Step
-stepIn room c k = ifTwo c (pick (leb (count c) (k .index)) stepping.End (stepWithin room (written c) k)) (stepping.Refused (refusal MISSING 0))
+stepIn room c k = pick (leb (count c) (k .index)) stepping.End (stepWithin room (written c) k)
 
 -- the part of the attribute at an index
 abbrev pub partIn : Context → ℕ → Reply
 partIn c i = pick (ltb i (count c)) (lent (bodyPart (startIn (c .attributes) i) (bodyAt c i)) (partBytes (bodyAt c i))) (lent noPart [])
 
--- the map copied out, and the listing
-abbrev pub mapReply : Context → List ℕ → Answer × List ℕ
-mapReply c out = ifTwo c (mapIn c out) (tooFew, out)
+-- the first of the context c, the second where reading refuses the buffer with r
+unfoldable pub repliesIn : ℕ → Context → Refusal → Question → Reply × Reply
+repliesIn room c r read = (reading (readings.Accepted (versionIn c) (used c)), reading (readings.Refused r))
+repliesIn room c r (step k) = (stepped (stepIn room c k), stepped (stepping.Refused r))
+repliesIn room c r (askAttribute i) = (attribute (withMembers (attributeAt c i) (startOrCount c i)), attribute (unanswered (Refused r)))
+repliesIn room c r (askStart i) = (answer (startOrCount c i), answer (Refused r))
+repliesIn room c r (askPart i) = (partIn c i, lent noPart [])
+repliesIn room c r (copyMap out) = (copied (mapIn c out), copied (Refused r, out))
+repliesIn room c r (copyMapBytes out) = (copied (overBytes out (mapIn c (numbersIn out))), copied (overBytes out (Refused r, numbersIn out)))
+repliesIn room c r askLine = (lent (commandLineIn c) (textIn c), lent noPart [])
+repliesIn room c r locateLine = (located (commandLineIn c), located noPart)
+repliesIn room c r (askModule a) = (answer (moduleIn c a), answer (Refused r))
+repliesIn room c r (list out) = (copied (textListed (linesBytes (contextLines c)) out), copied (textListed (linesBytes (refusedLines r)) out))
+repliesIn room c r askListingLength = (number (length (linesBytes (contextLines c))), number (length (linesBytes (refusedLines r))))
 
-abbrev pub listingIn : Context → List ℕ
-listingIn c = linesBytes (ifTwo c (contextLines c) (refusedLines (refusal MISSING 0)))
+-- ---- what a call answers by the list
+-- "count below 2", with offset 0
+abbrev pub tooFew : Refusal
+tooFew = refusal MISSING 0
 
 unfoldable pub replyTo : ℕ → Call → List Addition → Reply
-replyTo room begin gs = answer (Done (used (contextGiven [])))
-replyTo room (add g) gs = answer (addAnswer (refusalOf room gs g) gs g)
-replyTo room (addMembers m) gs = answer (addAnswer (membersRefusal room gs (membersFormed m) (membersBody m)) gs (giving (membersBody m)))
-replyTo room read gs = let c = contextGiven gs in reading (ifTwo c (readings.Accepted (versionIn c) (used c)) (readings.Refused (refusal MISSING 0)))
-replyTo room (step k) gs = stepped (stepIn room (contextGiven gs) k)
-replyTo room (askAttribute i) gs = let c = contextGiven gs in attribute (ifTwo c (withMembers (attributeAt c i) (startOrCount c i)) (unanswered tooFew))
-replyTo room (askStart i) gs = let c = contextGiven gs in answer (ifTwo c (startOrCount c i) tooFew)
-replyTo room (askPart i) gs = let c = contextGiven gs in ifTwo c (partIn c i) (lent noPart [])
-replyTo room (copyMap out) gs = copied (mapReply (contextGiven gs) out)
-replyTo room (copyMapBytes out) gs = copied (overBytes out (mapReply (contextGiven gs) (numbersIn out)))
-replyTo room askLine gs = let c = contextGiven gs in ifTwo c (lent (commandLineIn c) (textIn c)) (lent noPart [])
-replyTo room locateLine gs = let c = contextGiven gs in located (ifTwo c (commandLineIn c) noPart)
-replyTo room (askModule a) gs = let c = contextGiven gs in answer (ifTwo c (moduleIn c a) tooFew)
-replyTo room (list out) gs = copied (textListed (listingIn (contextGiven gs)) out)
-replyTo room askListingLength gs = number (length (listingIn (contextGiven gs)))
+replyTo room (ask q) gs = let c = contextGiven gs in let r = repliesIn room c tooFew q in pick (leb 2 (count c)) (r .0) (r .1)
+replyTo room (write begin) gs = answer (Done (used (contextGiven [])))
+replyTo room (write (add g)) gs = answer (addAnswer (refusalOf room gs g) gs g)
+replyTo room (write (addMembers m)) gs =
+    answer (addAnswer (membersRefusal room gs (membersFormed m) (membersBody m)) gs (giving (membersBody m)))
 
 -- the same toward C, as one number
 abbrev pub anyReply : ℕ → AnyCall → List Addition → Reply

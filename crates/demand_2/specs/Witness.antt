@@ -28,13 +28,15 @@ use Rattle.ultra_building.specs.Building.{begun, added}
 use Rattle.ultra_acceptance.specs.Acceptance.{HoldsContext}
 use Rattle.demand_3.specs.Witness.{everyPlatformRecord, everyKernelRecord, everyModuleRecord, everyFramebufferRecord, everyEntries, everyLine}
 use Rattle.ultra_acceptance.specs.Steps.{StepsThrough}
-use Rattle.demand_2.specs.Calls.{Members, membersBody, run, Reply.answer}
-use Rattle.demand_2.specs.Calls.{Members.platformMembers, Members.kernelMembers, Members.mapMembers, Members.moduleMembers, Reply.number}
-use Rattle.demand_2.specs.Calls.{Call.begin, Call.add, Call.addMembers, Call.read, Call.step, Call.askAttribute, Call.askStart, Call.askPart, Call.copyMap, Call.copyMapBytes, Call.askLine, Call.locateLine, Call.askModule, Call.list, Call.askListingLength}
-use Rattle.demand_2.specs.CallsFromC.{CallFromC, runFromC, asked, AnyCall, inRattle, runAny, after, replies}
+use Rattle.demand_2.specs.Calls.{Members, membersBody, Members.platformMembers, Members.kernelMembers, Members.mapMembers, Members.moduleMembers}
+use Rattle.demand_2.specs.Calls.{Write.begin, Write.add, Write.addMembers}
+use Rattle.demand_2.specs.Calls.{Question, Question.read, Question.step, Question.askAttribute, Question.askStart, Question.askPart, Question.copyMap, Question.copyMapBytes}
+use Rattle.demand_2.specs.Calls.{Question.askLine, Question.locateLine, Question.askModule, Question.list, Question.askListingLength}
+use Rattle.demand_2.specs.Calls.{Call.write, Call.ask, Reply.answer, Reply.number, runWrite, run}
+use Rattle.demand_2.specs.CallsFromC.{CallFromC, CallFromC.writeFromC, CallFromC.askFromC, runFromC, asked, AnyCall, inRattle, runAny, after, replies}
 use Rattle.demand_2.specs.CallsFromC.{AnyCall.fromRattle, AnyCall.fromC}
-use Rattle.demand_2.specs.CallsFromC.{CallFromC.ultraRead, CallFromC.ultraStep, CallFromC.ultraAttribute, CallFromC.ultraCopyMap, CallFromC.ultraCommandLine, CallFromC.ultraModuleHolding, CallFromC.ultraBegin}
-use Rattle.demand_2.specs.CallsFromC.{CallFromC.ultraAddPlatform, CallFromC.ultraAddKernel, CallFromC.ultraAddMap, CallFromC.ultraAddModule, CallFromC.ultraAddCommandLine, CallFromC.ultraAddFramebuffer}
+use Rattle.demand_2.specs.CallsFromC.{QuestionFromC, QuestionFromC.ultraRead, QuestionFromC.ultraStep, QuestionFromC.ultraAttribute, QuestionFromC.ultraCopyMap, QuestionFromC.ultraCommandLine, QuestionFromC.ultraModuleHolding}
+use Rattle.demand_2.specs.CallsFromC.{WriteFromC.ultraBegin, WriteFromC.ultraAddPlatform, WriteFromC.ultraAddKernel, WriteFromC.ultraAddMap, WriteFromC.ultraAddModule, WriteFromC.ultraAddCommandLine, WriteFromC.ultraAddFramebuffer}
 use Rattle.demand_2.specs.Arguments.{MembersTyped, AllTyped}
 use Rattle.demand_2.specs.Model.{contextGiven, listAfterAll}
 use Rattle.demand_2.specs.Demand2.{ReadsBack, adds, AllSucceeded, Appended, bufferNow, listNow}
@@ -80,50 +82,61 @@ sixAdditions =
     ∷ []
 
 -- ---- calls of every kind
--- after a first beginning: two attributes, a beginning that empties the list, the six types in turn; adds that are refused; every question
-abbrev pub everyCall : List AnyCall
-everyCall =
-    fromRattle (add (addPlatform (everyPlatformRecord .platform)))
-    ∷ fromC (ultraAddKernel 4096 4096 4096 1 (zeros 16) (zeros 16) 0 0 (47 ∷ []))
-    ∷ fromC ultraBegin
-    ∷ fromRattle begin
-    ∷ fromRattle (addMembers (platformMembers true 67305985 258 772 (98 ∷ []) 578437695752307201 2314601843866147353 5 1157159078456920585 1735880461161533969))
-    ∷ fromC (ultraAddKernel 4294971392 18446744071562072064 69632 3 (everyKernelRecord .kernel .«disk_guid») (everyKernelRecord .kernel .«partition_guid») 513 1027 (47 ∷ 107 ∷ 195 ∷ 169 ∷ []))
-    ∷ fromRattle (addMembers (mapMembers everyEntries))
-    ∷ fromC (ultraAddModule 2 (109 ∷ []) 8589934592 4097)
-    ∷ fromRattle (add (addCommandLine everyLine))
-    ∷ fromC (ultraAddFramebuffer 1024 768 4096 32 3 18446744073706405888)
+-- after a first beginning: two attributes, a beginning that empties the list, the six types in turn; adds that are refused
+abbrev pub everyWrite : List AnyCall
+everyWrite =
+    fromRattle (write (add (addPlatform (everyPlatformRecord .platform))))
+    ∷ fromC (writeFromC (ultraAddKernel 4096 4096 4096 1 (zeros 16) (zeros 16) 0 0 (47 ∷ [])))
+    ∷ fromC (writeFromC ultraBegin)
+    ∷ fromRattle (write begin)
+    ∷ fromRattle (write (addMembers (platformMembers true 67305985 258 772 (98 ∷ []) 578437695752307201 2314601843866147353 5 1157159078456920585 1735880461161533969)))
+    ∷ fromC (writeFromC (ultraAddKernel 4294971392 18446744071562072064 69632 3 (everyKernelRecord .kernel .«disk_guid») (everyKernelRecord .kernel .«partition_guid») 513 1027 (47 ∷ 107 ∷ 195 ∷ 169 ∷ [])))
+    ∷ fromRattle (write (addMembers (mapMembers everyEntries)))
+    ∷ fromC (writeFromC (ultraAddModule 2 (109 ∷ []) 8589934592 4097))
+    ∷ fromRattle (write (add (addCommandLine everyLine)))
+    ∷ fromC (writeFromC (ultraAddFramebuffer 1024 768 4096 32 3 18446744073706405888))
     -- refused: 9, 9, 9, 9, 10, 10, 11, 11, 10, 10
-    ∷ fromRattle (addMembers (platformMembers false 2 0 0 [] 0 0 0 0 0))
-    ∷ fromC (ultraAddPlatform 2 0 0 [] 0 0 0 0 0)
-    ∷ fromRattle (add (addKernel (everyKernelRecord .kernel)))
-    ∷ fromRattle (addMembers (kernelMembers 0 0 0 1 [] [] 0 0 (47 ∷ [])))
-    ∷ fromRattle (add (addMap (0 ∷ 0 ∷ [])))
-    ∷ fromC (ultraAddMap (0 ∷ []))
-    ∷ fromRattle (add (addModule (everyModuleRecord .«module»)))
-    ∷ fromRattle (addMembers (moduleMembers 1 [] 0 0))
-    ∷ fromC (ultraAddCommandLine [])
-    ∷ fromRattle (add (addFramebuffer (everyFramebufferRecord .framebuffer)))
-    -- calls that only read
-    ∷ fromRattle read
-    ∷ fromRattle (step (cursorAt 0 8))
-    ∷ fromRattle (askAttribute 3)
-    ∷ fromRattle (askStart 7)
-    ∷ fromRattle (askPart 2)
-    ∷ fromRattle (copyMap (1 ∷ []))
-    ∷ fromRattle (copyMapBytes (1 ∷ []))
-    ∷ fromRattle askLine
-    ∷ fromRattle locateLine
-    ∷ fromRattle (askModule 8589934592)
-    ∷ fromRattle (list (1 ∷ []))
-    ∷ fromRattle askListingLength
-    ∷ fromC ultraRead
-    ∷ fromC (ultraStep 0 8)
-    ∷ fromC (ultraAttribute 3)
-    ∷ fromC (ultraCopyMap (1 ∷ []))
-    ∷ fromC ultraCommandLine
-    ∷ fromC (ultraModuleHolding 8589934592)
+    ∷ fromRattle (write (addMembers (platformMembers false 2 0 0 [] 0 0 0 0 0)))
+    ∷ fromC (writeFromC (ultraAddPlatform 2 0 0 [] 0 0 0 0 0))
+    ∷ fromRattle (write (add (addKernel (everyKernelRecord .kernel))))
+    ∷ fromRattle (write (addMembers (kernelMembers 0 0 0 1 [] [] 0 0 (47 ∷ []))))
+    ∷ fromRattle (write (add (addMap (0 ∷ 0 ∷ []))))
+    ∷ fromC (writeFromC (ultraAddMap (0 ∷ [])))
+    ∷ fromRattle (write (add (addModule (everyModuleRecord .«module»))))
+    ∷ fromRattle (write (addMembers (moduleMembers 1 [] 0 0)))
+    ∷ fromC (writeFromC (ultraAddCommandLine []))
+    ∷ fromRattle (write (add (addFramebuffer (everyFramebufferRecord .framebuffer))))
     ∷ []
+
+abbrev pub everyQuestion : List Question
+everyQuestion =
+    read
+    ∷ step (cursorAt 0 8)
+    ∷ askAttribute 3
+    ∷ askStart 7
+    ∷ askPart 2
+    ∷ copyMap (1 ∷ [])
+    ∷ copyMapBytes (1 ∷ [])
+    ∷ askLine
+    ∷ locateLine
+    ∷ askModule 8589934592
+    ∷ list (1 ∷ [])
+    ∷ askListingLength
+    ∷ []
+
+abbrev pub everyQuestionFromC : List QuestionFromC
+everyQuestionFromC = ultraRead ∷ ultraStep 0 8 ∷ ultraAttribute 3 ∷ ultraCopyMap (1 ∷ []) ∷ ultraCommandLine ∷ ultraModuleHolding 8589934592 ∷ []
+
+unfoldable pub asks : List Question → List AnyCall
+asks [] = []
+asks (q ∷ qs) = fromRattle (ask q) ∷ asks qs
+
+unfoldable pub asksFromC : List QuestionFromC → List AnyCall
+asksFromC [] = []
+asksFromC (q ∷ qs) = fromC (askFromC q) ∷ asksFromC qs
+
+abbrev pub everyCall : List AnyCall
+everyCall = everyWrite ++ (asks everyQuestion ++ asksFromC everyQuestionFromC)
 
 -- n bytes of 255
 abbrev pub ones : ℕ → List ℕ
@@ -132,7 +145,7 @@ ones n = replicate n 255
 -- the widest arguments of each add: every number the largest of its width, every byte 255, and from C texts and GUIDs longer than any field
 abbrev pub widestCalls : List AnyCall
 widestCalls =
-    fromRattle (add (addPlatform (record {
+    fromRattle (write (add (addPlatform (record {
       kind = 4294967295;
       «loader_major» = 65535;
       «loader_minor» = 65535;
@@ -142,8 +155,8 @@ widestCalls =
       depth = narrow.Present 255;
       dtb = wide.Present 18446744073709551615;
       smbios = wide.Absent;
-    })))
-    ∷ fromRattle (add (addKernel (record {
+    }))))
+    ∷ fromRattle (write (add (addKernel (record {
       «physical_base» = 18446744073709551615;
       «virtual_base» = 18446744073709551615;
       size = 18446744073709551615;
@@ -153,15 +166,15 @@ widestCalls =
       «disk_index» = 4294967295;
       «partition_index» = 4294967295;
       path = ones 256;
-    })))
-    ∷ fromRattle (add (addMap (18446744073709551615 ∷ 18446744073709551615 ∷ [])))
-    ∷ fromRattle (add (addModule (record { kind = 4294967295; name = ones 64; address = 18446744073709551615; size = 18446744073709551615 })))
-    ∷ fromRattle (add (addCommandLine (ones 9)))
-    ∷ fromRattle (add (addFramebuffer (record { width = 4294967295; height = 4294967295; pitch = 4294967295; bpp = 65535; format = 65535; address = 18446744073709551615 })))
-    ∷ fromC (ultraAddPlatform 4294967295 65535 65535 (ones 300) 18446744073709551615 18446744073709551615 255 18446744073709551615 18446744073709551615)
-    ∷ fromC (ultraAddKernel 18446744073709551615 18446744073709551615 18446744073709551615 18446744073709551615 (ones 17) (ones 300) 4294967295 4294967295 (ones 300))
-    ∷ fromC (ultraAddMap (ones 25))
-    ∷ fromC (ultraAddModule 4294967295 (ones 300) 18446744073709551615 18446744073709551615)
+    }))))
+    ∷ fromRattle (write (add (addMap (18446744073709551615 ∷ 18446744073709551615 ∷ []))))
+    ∷ fromRattle (write (add (addModule (record { kind = 4294967295; name = ones 64; address = 18446744073709551615; size = 18446744073709551615 }))))
+    ∷ fromRattle (write (add (addCommandLine (ones 9))))
+    ∷ fromRattle (write (add (addFramebuffer (record { width = 4294967295; height = 4294967295; pitch = 4294967295; bpp = 65535; format = 65535; address = 18446744073709551615 }))))
+    ∷ fromC (writeFromC (ultraAddPlatform 4294967295 65535 65535 (ones 300) 18446744073709551615 18446744073709551615 255 18446744073709551615 18446744073709551615))
+    ∷ fromC (writeFromC (ultraAddKernel 18446744073709551615 18446744073709551615 18446744073709551615 18446744073709551615 (ones 17) (ones 300) 4294967295 4294967295 (ones 300)))
+    ∷ fromC (writeFromC (ultraAddMap (ones 25)))
+    ∷ fromC (writeFromC (ultraAddModule 4294967295 (ones 300) 18446744073709551615 18446744073709551615))
     ∷ []
 
 -- no late member
@@ -185,8 +198,8 @@ pub record Built (gs : List Addition) (c : Context) (bytes : List ℕ) (n : ℕ)
   pub typed : AllTyped (adds gs)
   pub list : contextGiven gs ≡ c
   pub kept : listAfterAll n (adds gs) [] ≡ gs
-  pub built : (b : List ℕ) → length b ≡ n → after (fromRattle begin ∷ adds gs) b ≡ bytes
-  pub accepted : (b : List ℕ) → length b ≡ n → AllSucceeded (replies (fromRattle begin ∷ adds gs) b)
+  pub built : (b : List ℕ) → length b ≡ n → after (fromRattle (write begin) ∷ adds gs) b ≡ bytes
+  pub accepted : (b : List ℕ) → length b ≡ n → AllSucceeded (replies (fromRattle (write begin) ∷ adds gs) b)
   pub plain : Plain bytes c
   pub holds : HoldsContext 2 bytes c
 
@@ -196,23 +209,23 @@ pub record EveryKind : Type 0 where
   pub built : (b : List ℕ) → length b ≡ 640 → bufferNow b everyCall ≡ sixTypesBytes
   pub long : (b : List ℕ) → length b ≡ 65537 → take 640 (bufferNow b everyCall) ≡ sixTypesBytes
   -- answers that the list determines: the used length; the last attribute, the end; 5 past the room, and at no multiple of 8 past the used length
-  pub read : (b : List ℕ) → length b ≡ 640 → runAny (fromC ultraRead) (bufferNow b everyCall) .0 ≡ number 640
-  pub last : (b : List ℕ) → length b ≡ 640 → runAny (fromC (ultraStep 5 608)) (bufferNow b everyCall) .0 ≡ number 640
-  pub end : (b : List ℕ) → length b ≡ 65537 → runAny (fromC (ultraStep 6 640)) (bufferNow b everyCall) .0 ≡ number 0
+  pub read : (b : List ℕ) → length b ≡ 640 → runAny (fromC (askFromC ultraRead)) (bufferNow b everyCall) .0 ≡ number 640
+  pub last : (b : List ℕ) → length b ≡ 640 → runAny (fromC (askFromC (ultraStep 5 608))) (bufferNow b everyCall) .0 ≡ number 640
+  pub end : (b : List ℕ) → length b ≡ 65537 → runAny (fromC (askFromC (ultraStep 6 640))) (bufferNow b everyCall) .0 ≡ number 0
   -- 6 at 16, within the first attribute
-  pub inside : (b : List ℕ) → length b ≡ 640 → runAny (fromC (ultraStep 0 16)) (bufferNow b everyCall) .0 ≡ number 25769803792
-  pub pastRoom : (b : List ℕ) → length b ≡ 640 → runAny (fromC (ultraStep 0 640)) (bufferNow b everyCall) .0 ≡ number 21474837120
-  pub crooked : (b : List ℕ) → length b ≡ 65537 → runAny (fromC (ultraStep 0 644)) (bufferNow b everyCall) .0 ≡ number 21474837124
+  pub inside : (b : List ℕ) → length b ≡ 640 → runAny (fromC (askFromC (ultraStep 0 16))) (bufferNow b everyCall) .0 ≡ number 25769803792
+  pub pastRoom : (b : List ℕ) → length b ≡ 640 → runAny (fromC (askFromC (ultraStep 0 640))) (bufferNow b everyCall) .0 ≡ number 21474837120
+  pub crooked : (b : List ℕ) → length b ≡ 65537 → runAny (fromC (askFromC (ultraStep 0 644))) (bufferNow b everyCall) .0 ≡ number 21474837124
 
 -- ---- arguments, of any length
 -- a line of any bytes, an empty map and a platform without late members are of their types; calls that are, one after the other, are; and
 -- so are calls without an add
 pub record AnyArguments : Type 0 where
-  pub lines : (t : List ℕ) → ((i : ℕ) → getD t i 0 < 256) → AllTyped (fromRattle (add (addCommandLine t)) ∷ fromC (ultraAddMap t) ∷ [])
-  pub noMap : AllTyped (fromRattle (add (addMap [])) ∷ [])
-  pub noMembers : AllTyped (fromRattle (add (addPlatform absentPlatform)) ∷ [])
+  pub lines : (t : List ℕ) → ((i : ℕ) → getD t i 0 < 256) → AllTyped (fromRattle (write (add (addCommandLine t))) ∷ fromC (writeFromC (ultraAddMap t)) ∷ [])
+  pub noMap : AllTyped (fromRattle (write (add (addMap []))) ∷ [])
+  pub noMembers : AllTyped (fromRattle (write (add (addPlatform absentPlatform))) ∷ [])
   pub joined : (ks js : List AnyCall) → AllTyped ks → AllTyped js → AllTyped (ks ++ js)
-  pub reading : (k : AnyCall) → ((g : Addition) → inRattle k ≡ add g → ⊥) → ((m : Members) → inRattle k ≡ addMembers m → ⊥) → AllTyped (k ∷ [])
+  pub reading : (k : AnyCall) → ((g : Addition) → inRattle k ≡ write (add g) → ⊥) → ((m : Members) → inRattle k ≡ write (addMembers m) → ⊥) → AllTyped (k ∷ [])
 
 -- two attributes
 abbrev pub two : List Addition
@@ -223,14 +236,14 @@ abbrev pub one : List Addition
 one = take 1 sixAdditions
 
 pub record TwoAreEnough : Type 0 where
-  pub oneIsNot : (b : List ℕ) → length b ≡ 104 → runAny (fromC (ultraStep 0 96)) (bufferNow b (adds one)) .0 ≡ number 17179869184
+  pub oneIsNot : (b : List ℕ) → length b ≡ 104 → runAny (fromC (askFromC (ultraStep 0 96))) (bufferNow b (adds one)) .0 ≡ number 17179869184
   pub back : (b : List ℕ) → length b ≡ 432 → ReadsBack (bufferNow b (adds two)) two
   pub through : (b : List ℕ) → length b ≡ 432 → StepsThrough (bufferNow b (adds two)) (contextGiven two)
 
 -- a call from C that is refused changes nothing, in any buffer; and an add of members that changes a buffer is the add of a record
 pub record FromCAndMembers : Type 0 where
   pub keeps : (b : List ℕ) (k : CallFromC) (a : Answer) → run (asked k) b .0 ≡ answer a → (numberOf a ≡ 0 → ⊥) → runFromC k b .1 ≡ b
-  pub asRecord : (b : List ℕ) (m : Members) → MembersTyped m → (run (addMembers m) b .1 ≡ b → ⊥) → (g : Addition) × (bodyGiven g ≡ membersBody m) × (run (addMembers m) b ≡ run (add g) b)
+  pub asRecord : (b : List ℕ) (m : Members) → MembersTyped m → (runWrite (addMembers m) b .1 ≡ b → ⊥) → (g : Addition) × (bodyGiven g ≡ membersBody m) × (runWrite (addMembers m) b ≡ runWrite (add g) b)
 
 -- a head of version 2.7 that counts nothing, its reserved bytes 165, and 93 bytes after it
 abbrev pub otherHead : List ℕ
