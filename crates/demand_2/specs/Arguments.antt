@@ -1,6 +1,6 @@
 -- What is asked of the arguments of adds: that they are of their types, which the language and C ask of every caller. Of every other call
 -- nothing is asked: it answers by any numbers.
--- Assumes nothing.
+-- A reader has to believe this file.
 use Prim.Native.Nat.{ℕ, _<_, _^_}
 use mathlib.Core.Path.{_≡_}
 use mathlib.Core.List.{List, [], _∷_}

@@ -1,7 +1,7 @@
 -- Every call that the library publishes on a buffer, as data: what it answers and what it leaves in the buffer, by the definitions that
 -- the contracts cite. Those toward C are CallsFromC. (`Cursor::first` takes no buffer; other `pub` functions are for the library's own
 -- crates.)
--- Assumes nothing.
+-- A reader has to believe this file.
 use Prim.Native.Nat.{ℕ}
 use mathlib.Core.Bool.{Bool, true}
 use mathlib.Core.List.{List}

@@ -1,6 +1,6 @@
 -- The calls toward C (crate ultra), as data: "called from the loader, which is written in C". What each answers is the definition that its
 -- contract cites, crossed as one number; each is a call from Rattle (`asked`), so that one model serves both.
--- Assumes nothing.
+-- A reader has to believe this file.
 use Prim.Native.Nat.{ℕ}
 use mathlib.Core.Bool.{true}
 use mathlib.Core.List.{List, [], _∷_}

@@ -10,6 +10,7 @@
 -- its context, so that no text, map or output that a call is given beside it is a part of it (they are lists of their own); and
 -- arguments of adds are of their types (`AllTyped`, Arguments).
 -- Assumes nothing else.
+-- A reader has to believe this file.
 use Prim.Native.Nat.{ℕ, zero, suc, _+_, _/_, _%_, _≤_, _<_}
 use mathlib.Core.Path.{_≡_}
 use mathlib.Core.Logic.{_⊎_}

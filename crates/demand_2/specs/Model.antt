@@ -1,6 +1,6 @@
 -- The model of demand 2: what each call does to a list and answers by it. The list has what was given to the adds, in their order, and
 -- nothing else is kept; the room of the buffer is a constant.
--- Assumes nothing.
+-- A reader has to believe this file.
 use Prim.Native.Nat.{ℕ, zero, suc, _+_, _%_}
 use mathlib.Core.Bool.{Bool, _&&_}
 use mathlib.Core.List.{List, [], _∷_, _++_}

@@ -3,7 +3,7 @@
 -- types once, no two members of one record alike. Both are plain. And no premise of it excludes a call unnoticed: calls of every kind, a
 -- second beginning among them, build the same 640 bytes; the widest arguments are of their types; two attributes are enough; a context
 -- that another writer began is extended. Each is proved from the demand itself, in proofs/Witness.antt: `witnessed`.
--- Assumes nothing.
+-- A reader has to believe this file.
 use Prim.Native.Nat.{ℕ, _≤_, _<_}
 use mathlib.Core.Logic.{_⊎_}
 use mathlib.Core.Bool.{true, false}

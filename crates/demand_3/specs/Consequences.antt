@@ -1,7 +1,7 @@
 -- Consequences of demand 3, with its names written out: what holds of a buffer that reading accepts and of one that it refuses, and how a
 -- buffer may change without another reading, a byte at a time. They are proved from the statement alone, for every buffer and list: one
 -- that asked for more would not give them. Proved in proofs/Consequences.antt: `consequences`.
--- Assumes nothing.
+-- A reader has to believe this file.
 use Prim.Native.Nat.{ℕ, _<_, min}
 use mathlib.Core.Path.{_≡_}
 use mathlib.Core.List.{List, _++_}

@@ -3,7 +3,7 @@
 -- answer is `readingOf` (the contract of `ultra_reading::read`), `attributeAnswer` (that of `ultra_questions::attribute`) and a slice of
 -- which `PartHandedBack` holds (that of `ultra_questions::attribute_part`). It is proved in proofs/Demand3.antt: `demand-3`. "Whatever a buffer holds and however
 -- long it is": a buffer is any list of numbers; that they are bytes (`Bytes`) is asked where it is needed.
--- Assumes nothing.
+-- A reader has to believe this file.
 use Prim.Native.Nat.{ℕ, _≤_, _<_}
 use mathlib.Core.Path.{_≡_}
 use mathlib.Core.Logic.{_↔_}

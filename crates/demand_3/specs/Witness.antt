@@ -3,7 +3,7 @@
 -- may be the second buffer of the other.
 -- (Examples, of crate ultra_format, has the context and its bytes.) And a platform of 56 bytes is answered without late members. Proved
 -- in proofs/Witness.antt: `witnessed`.
--- Assumes nothing.
+-- A reader has to believe this file.
 use Prim.Native.Nat.{ℕ, suc, _+_, _≤_, _<_}
 use mathlib.Core.Path.{_≡_}
 use mathlib.Core.List.{List, [], _∷_, _++_}

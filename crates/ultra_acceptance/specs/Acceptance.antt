@@ -1,7 +1,7 @@
 -- Statements on which demand 3 rests (it stands whole in crate demand_3): reading accepts exactly the contexts that meet the rules, there
 -- is one at most, and silent bytes never change what is read. They are proved in proofs/Acceptance.antt. Those with `fewest` speak of
 -- every lower limit of the count, so of what adding reads too. Of a buffer only that its elements are bytes is assumed, and that only where it is needed.
--- Assumes nothing.
+-- A reader has to believe this file.
 use Prim.Native.Nat.{ℕ, _≤_, _<_}
 use mathlib.Core.Path.{_≡_}
 use mathlib.Core.Logic.{_↔_}

@@ -1,7 +1,7 @@
 -- Statements: what follows for every buffer from the statements of Acceptance, Refusing, Steps and Unread, and for one context that is
 -- not plain. Each is proved with these as parameters (proofs/EveryReading.antt), so that a premise which one of them should not have
 -- would be missing there. Of a buffer nothing is assumed but, where a list is found in it, that its elements are bytes.
--- Assumes nothing.
+-- A reader has to believe this file.
 use Prim.Native.Nat.{ℕ, _<_}
 use mathlib.Core.Path.{_≡_}
 use mathlib.Core.Logic.{_⊎_}

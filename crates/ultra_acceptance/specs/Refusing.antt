@@ -2,7 +2,7 @@
 -- offset, and no other number. They are proved in proofs/Refusing.antt. Each row's condition is asked by itself, whatever else the buffer
 -- breaks; which of several is given is said after them. For 12 to 16 the conditions are the tests of Members (crate ultra_format), which
 -- the rules ask too. Of a buffer nothing is assumed.
--- Assumes nothing.
+-- A reader has to believe this file.
 use Prim.Native.Nat.{ℕ, _+_, _-_, _%_, _<_}
 use mathlib.Core.Path.{_≡_}
 use mathlib.Core.Logic.{_↔_, _⊎_}

@@ -1,7 +1,7 @@
 -- Statements: what reading does not look at. Nothing past byte 65,536 of a longer buffer (docs/DECISIONS.md, A1), and no byte that
 -- document 01 calls silent, whether the buffer is refused or accepted (B19). They are proved in proofs/Unread.antt. Of a buffer nothing is
 -- assumed.
--- Assumes nothing.
+-- A reader has to believe this file.
 use Prim.Native.Nat.{ℕ, _+_, _≤_, _<_}
 use mathlib.Core.Path.{_≡_}
 use mathlib.Core.List.{List}

@@ -1,6 +1,6 @@
 -- The premises of specs/Unread.antt can be met: a refused buffer with every kind of silent byte, written out by hand from document 01's
 -- table, with anything in these bytes. proofs/UnreadExample.antt proves the statement.
--- Assumes nothing.
+-- A reader has to believe this file.
 use Prim.Native.Nat.{ℕ}
 use mathlib.Core.Path.{_≡_}
 use mathlib.Core.List.{List, [], _∷_, _++_}
