@@ -1,11 +1,11 @@
--- `ultra_records::kernel::guid` meets its contract.
+-- `ultra_layout::kernel::guid` meets its contract.
 -- Assumes nothing.
 use mathlib.Core.Path.{_∙_}
 use native.Mathlib.Omega.{arith}
 use Rattle.byte_layout.proofs.Copies.{bytes-whole}
 use borrow.Author.Needs.{needs}
-use Rattle.ultra_records.proofs.kernel.guid.Statement.{statement}
-use Rattle.ultra_records.proofs.kernel.guid.Tie as tie
+use Rattle.ultra_layout.proofs.kernel.guid.Statement.{statement}
+use Rattle.ultra_layout.proofs.kernel.guid.Tie as tie
 
 slice-aggregate-copy : tie.Need-slice-aggregate-copy
 slice-aggregate-copy c = search needs

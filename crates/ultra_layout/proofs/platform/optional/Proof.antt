@@ -1,10 +1,10 @@
--- `ultra_records::platform::late` meets its contract.
+-- `ultra_layout::platform::optional` meets its contract.
 -- Assumes nothing.
 use Prim.Native.Nat.{_+_}
 use borrow.Author.Tests.{le-leb, lt-leb}
 use borrow.Author.Needs.{needs}
-use Rattle.ultra_records.proofs.platform.late.Statement.{statement}
-use Rattle.ultra_records.proofs.platform.late.Tie as tie
+use Rattle.ultra_layout.proofs.platform.optional.Statement.{statement}
+use Rattle.ultra_layout.proofs.platform.optional.Tie as tie
 
 add-if1 : tie.Need-add-if1
 add-if1 c = search needs
@@ -25,5 +25,5 @@ returns-2 c =
     let s = c .before .before .before .args in
     rw (c .load-u64 .ensures) (simp (le-leb (s .offset + 8) (s .size) (c .before .if1 .left)))
 
-pub late-spec : {M : Type 1} → statement M
-late-spec = tie.close (tie.spec add-if1 returns add-load-u64 load-u64-requires returns-2)
+pub optional-spec : {M : Type 1} → statement M
+optional-spec = tie.close (tie.spec add-if1 returns add-load-u64 load-u64-requires returns-2)
