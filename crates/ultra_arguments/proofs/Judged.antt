@@ -1,7 +1,7 @@
 -- What the five tests make is the number of the members; and the tests of a command line's and a map's form.
 -- Assumes nothing.
 use Prim.Native.Nat.{ℕ, _+_, _-_, _*_, _%_}
-use mathlib.Core.Path.{_≡_, refl, _∙_}
+use mathlib.Core.Path.{_≡_, refl, ap, _∙_}
 use mathlib.Core.Bool.{Bool, true, false}
 use mathlib.Core.List.{List}
 use native.Mathlib.Omega.{arith}
@@ -12,7 +12,8 @@ use Rattle.refusals.specs.Refusals.{unless, FORM}
 use Rattle.ultra_format.specs.Members.{sizeSuits, values, every, ascii, asciiText, texts, ranges, ordered, memberCheck, bodyCheck}
 use Rattle.ultra_format.specs.Contexts.{Entry, Body}
 use Rattle.ultra_format.specs.Plain.{roundedUp, writtenSize}
-use Rattle.ultra_format.specs.Additions.{entriesGiven, givenCheck}
+use Rattle.ultra_format.specs.Additions.{givenCheck}
+use Rattle.ultra_rules.proofs.Judged as stored
 
 form-first : (f v t r o : Bool) → memberCheck f v t r o ≡ unless f FORM (memberCheck true v t r o)
 form-first true v t r o = refl
@@ -22,9 +23,7 @@ form-first false v t r o = refl
 pub judged : (f : Bool) (x : Body) {v t r o : Bool} → sizeSuits (writtenSize x) x ≡ true → v ≡ values x → t ≡ texts (writtenSize x) x → r ≡ ranges x
     → o ≡ ordered x → memberCheck f v t r o ≡ givenCheck f x
 unfolding givenCheck bodyCheck
-judged f x form value text range order =
-    (λ i. memberCheck f (value i) (text i) (range i) (order i)) ∙ form-first f (values x) (texts (writtenSize x) x) (ranges x) (ordered x)
-    ∙ rw form
+judged f x {v} {t} {r} {o} form value text range order = form-first f v t r o ∙ ap (unless f FORM) (stored.judged (writtenSize x) x form value text range order)
 
 -- a command line is written in 16 bytes at least, and shorter than its field
 pub line-form : (t : List ℕ) → leb 16 (8 + roundedUp (length t + 1)) ≡ true

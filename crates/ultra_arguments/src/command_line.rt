@@ -6,5 +6,5 @@ pub fn check(text: &[u8]) -> u16
     ensures { λ r. ⌜ r ≡ additionCheck (Addition.addCommandLine (now (text .entry))) ⌝ }
 {
     let ascii = crate::texts::all_ascii(text);
-    crate::first_broken(true, true, ascii, true, true)
+    ultra_rules::first_broken(true, true, ascii, true, true)
 }

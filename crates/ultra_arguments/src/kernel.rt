@@ -3,24 +3,16 @@ ghost use mathlib.Core.Bool.{true, _&&_};
 ghost use Rattle.address_ranges.specs.Ranges.{rangeFits};
 ghost use Rattle.ultra_format.specs.Members.{kernelValues, pathText, memberCheck};
 ghost use Rattle.ultra_format.specs.Additions.{guidsFormed};
+use ultra_layout::kernel;
 
 // "12 for .. a GUID not of 16"
 fn guids_formed(disk: &[u8], partition: &[u8]) -> bool
     ensures { λ r. ⌜ r ≡ guidsFormed (now (disk .entry)) (now (partition .entry)) ⌝ }
 {
-    if disk.len() != 16 {
+    if disk.len() != kernel::GUID_WIDTH {
         return false;
     }
-    partition.len() == 16
-}
-
-fn both_fit(phys: u64, virt: u64, size: u64) -> bool
-    ensures { λ r. ⌜ r ≡ (rangeFits phys size && rangeFits virt size) ⌝ }
-{
-    if !address_ranges::fits(phys, size) {
-        return false;
-    }
-    address_ranges::fits(virt, size)
+    partition.len() == kernel::GUID_WIDTH
 }
 
 // Only these members have rules.
@@ -36,8 +28,6 @@ pub fn check(
     ensures { λ r. ⌜ r ≡ memberCheck (guidsFormed (now (disk .entry)) (now (partition .entry))) (kernelValues phys virt size «partition_type») (pathText 256 (now (path .entry))) (rangeFits phys size && rangeFits virt size) true ⌝ }
 {
     let form = guids_formed(disk, partition);
-    let value = ultra_members::values::kernel(phys, virt, size, partition_type);
     let text = crate::texts::path(path);
-    let range = both_fit(phys, virt, size);
-    crate::first_broken(form, value, text, range, true)
+    ultra_rules::kernel::check(form, phys, virt, size, partition_type, text)
 }

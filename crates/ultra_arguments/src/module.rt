@@ -6,8 +6,6 @@ ghost use Rattle.ultra_format.specs.Members.{moduleValues, asciiText, memberChe
 pub fn check(kind: u32, name: &[u8], address: u64, size: u64) -> u16
     ensures { λ r. ⌜ r ≡ memberCheck true (moduleValues kind address) (asciiText 64 (now (name .entry))) (rangeFits address size) true ⌝ }
 {
-    let value = ultra_members::values::module(kind, address);
-    let text = crate::texts::ascii(name, 64);
-    let range = address_ranges::fits(address, size);
-    crate::first_broken(true, value, text, range, true)
+    let text = crate::texts::ascii(name, ultra_layout::module::NAME_WIDTH);
+    ultra_rules::module::check(kind, address, size, text)
 }

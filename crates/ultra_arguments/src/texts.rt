@@ -4,6 +4,7 @@ ghost use Prim.Native.Nat.{_≤_};
 ghost use lib.ListN.{length, take};
 ghost use Rattle.ultra_format.specs.Members.{every, ascii, asciiText, pathText};
 ghost use Rattle.ultra_format.specs.Records.{trimmed};
+use ultra_layout::kernel;
 
 // Whether every byte is one of 1 to 127.
 pub fn all_ascii(bytes: &[u8]) -> bool
@@ -38,7 +39,7 @@ pub fn path(text: &[u8]) -> bool
     ensures { λ r. ⌜ r ≡ pathText 256 (now (text .entry)) ⌝ }
 {
     let length = text.len();
-    if 256 <= length {
+    if kernel::PATH_WIDTH <= length {
         return false;
     }
     if length == 0 {

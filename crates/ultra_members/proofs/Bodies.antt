@@ -1,15 +1,13 @@
--- Laws of single bodies: when the size of a decoded one suits the table, the two ranges of a kernel, and which body a type decodes
--- to.
+-- Laws of single bodies: when the size of a decoded one suits the table, and which body a type decodes to.
 -- Assumes nothing.
 use Prim.Native.Nat.{ℕ, _+_, _-_, _*_, _/_, _%_, _≤_}
 use mathlib.Core.Path.{_≡_, refl}
-use mathlib.Core.Bool.{Bool, true, false, and-true, and-false}
+use mathlib.Core.Bool.{Bool, true, false, and-true}
 use mathlib.Core.List.{List}
 use native.Mathlib.Omega.{arith}
 use lib.Dec.{leb}
-use borrow.Author.Tests.{eq-eqb, ne-eqb}
-use Rattle.ultra_format.specs.Contexts.{Kernel, Body, Body.platform, Body.kernel, Body.memoryMap}
-use Rattle.address_ranges.specs.Ranges.{rangeFits}
+use borrow.Author.Tests.{ne-eqb}
+use Rattle.ultra_format.specs.Contexts.{Body, Body.platform, Body.memoryMap}
 use Rattle.ultra_format.specs.Members.{presentIf, sizeSuits, values, texts, ranges, ordered, bodyCheck}
 use Rattle.ultra_format.specs.Decoding.{memberWhen, platformAt, entriesAt, decoded}
 use Rattle.ultra_format.proofs.Numbers.{length-entries}
@@ -24,28 +22,10 @@ unfolding sizeSuits
 platform-suits b o s =
     simp (as-said (leb 64 s), as-said (leb 65 s), as-said (leb 80 s), as-said (leb 88 s), and-true)
 
--- a map fills its size if and only if that is 8 and a multiple of 24
-module _ (b : List ℕ) (o : ℕ) where
-  pub entries-suit : (n : ℕ) → sizeSuits (8 + 24 * n) (memoryMap (entriesAt b o n)) ≡ true
-  unfolding sizeSuits
-  entries-suit n = rw length-entries (eq-eqb (8 + 24 * n) (8 + 24 * n) refl)
-
-  pub map-misfits : (s : ℕ) → 8 ≤ s → ((s - 8) % 24 ≡ 0 → ⊥) → sizeSuits s (memoryMap (entriesAt b o ((s - 8) / 24))) ≡ false
-  unfolding sizeSuits
-  map-misfits s h e = rw length-entries (ne-eqb s (8 + 24 * ((s - 8) / 24)) (λ q. e (omega arith)))
-
-module _ (k : Kernel) where
-  pub physical-breaks : rangeFits (k .physicalBase) (k .size) ≡ false → ranges (kernel k) ≡ false
-  unfolding ranges
-  physical-breaks e = rw e
-
-  pub virtual-breaks : rangeFits (k .virtualBase) (k .size) ≡ false → ranges (kernel k) ≡ false
-  unfolding ranges
-  virtual-breaks e = rw (e, and-false)
-
-  pub both-fit : rangeFits (k .physicalBase) (k .size) ≡ true → rangeFits (k .virtualBase) (k .size) ≡ true → ranges (kernel k) ≡ true
-  unfolding ranges
-  both-fit e f = rw (e, f)
+-- what does not fill a whole number of entries is no map
+pub map-misfits : (b : List ℕ) (o s : ℕ) → 8 ≤ s → ((s - 8) % 24 ≡ 0 → ⊥) → sizeSuits s (memoryMap (entriesAt b o ((s - 8) / 24))) ≡ false
+unfolding sizeSuits
+map-misfits b o s h e = rw length-entries (ne-eqb s (8 + 24 * ((s - 8) / 24)) (λ q. e (omega arith)))
 
 -- the answer for a body is the answer for the bytes that decode to it
 module _ (b : List ℕ) (o s : ℕ) where

@@ -4,16 +4,15 @@ ghost use lib.ListN.{length};
 ghost use Rattle.byte_layout.specs.Stored.{textAt};
 ghost use Rattle.ultra_format.specs.Contexts.{Body};
 ghost use Rattle.ultra_format.specs.Members.{bodyCheck};
+use ultra_layout::command_line;
 
 pub fn check(bytes: &[u8], at: usize, size: u32) -> u16
     requires { ⌜ at + size ≤ length (now bytes) ⌝ }
     ensures { λ r. ⌜ r ≡ bodyCheck size (Body.commandLine (textAt (now (bytes .entry)) (at + 8) (size - 8))) ⌝ }
 {
-    if size < 16 {
+    if size < command_line::LEAST_SIZE {
         return refusals::FORM;
     }
-    if !crate::texts::ascii(bytes, at + 8, (size - 8) as usize) {
-        return refusals::TEXT;
-    }
-    0
+    let text = ultra_rules::texts::ascii(bytes, at + command_line::TEXT, (size - 8) as usize);
+    ultra_rules::first_broken(true, true, text, true, true)
 }

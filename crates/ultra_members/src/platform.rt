@@ -4,19 +4,16 @@ ghost use lib.ListN.{length};
 ghost use Rattle.ultra_format.specs.Contexts.{Body};
 ghost use Rattle.ultra_format.specs.Members.{bodyCheck};
 ghost use Rattle.ultra_format.specs.Decoding.{platformAt};
+use ultra_layout::platform;
 
 pub fn check(bytes: &[u8], at: usize, size: u32) -> u16
     requires { ⌜ at + size ≤ length (now bytes) ⌝ }
     ensures { λ r. ⌜ r ≡ bodyCheck size (Body.platform (platformAt (now (bytes .entry)) at size)) ⌝ }
 {
-    if size < 56 {
+    if size < platform::LEAST_SIZE {
         return refusals::FORM;
     }
-    if words::load_u32(bytes, at + 8) == 0 {
-        return refusals::VALUE;
-    }
-    if !crate::texts::ascii(bytes, at + 16, 32) {
-        return refusals::TEXT;
-    }
-    0
+    let value = platform::kind(bytes, at) != 0;
+    let text = ultra_rules::texts::ascii(bytes, at + platform::NAME, platform::NAME_WIDTH);
+    ultra_rules::first_broken(true, value, text, true, true)
 }

@@ -4,7 +4,9 @@ ghost use Prim.Native.Nat.{_+_, _≤_};
 ghost use lib.ListN.{length};
 ghost use Rattle.ultra_format.specs.Decoding.{framebufferAt};
 ghost use Rattle.ultra_format.specs.Records.{framebufferRecord, blankFramebuffer};
+ghost use Rattle.ultra_layout.specs.Sizes.{framebufferSize};
 use ultra_format::FramebufferRecord;
+use ultra_layout::framebuffer;
 
 pub fn blank() -> FramebufferRecord
     ensures { λ r. ⌜ r ≡ framebufferRecord blankFramebuffer ⌝ }
@@ -21,15 +23,15 @@ pub fn blank() -> FramebufferRecord
 
 // The members of the framebuffer that starts at `at`.
 pub fn read(bytes: &[u8], at: usize) -> FramebufferRecord
-    requires { ⌜ at + 32 ≤ length (now bytes) ⌝ }
+    requires { ⌜ at + framebufferSize ≤ length (now bytes) ⌝ }
     ensures { λ r. ⌜ r ≡ framebufferRecord (framebufferAt (now (bytes .entry)) at) ⌝ }
 {
-    let width = words::load_u32(bytes, at + 8);
-    let height = words::load_u32(bytes, at + 12);
-    let pitch = words::load_u32(bytes, at + 16);
-    let bpp = words::load_u16(bytes, at + 20);
-    let format = words::load_u16(bytes, at + 22);
-    let address = words::load_u64(bytes, at + 24);
+    let width = framebuffer::width(bytes, at);
+    let height = framebuffer::height(bytes, at);
+    let pitch = framebuffer::pitch(bytes, at);
+    let bpp = framebuffer::bpp(bytes, at);
+    let format = framebuffer::format(bytes, at);
+    let address = framebuffer::address(bytes, at);
     FramebufferRecord {
         width,
         height,

@@ -2,19 +2,11 @@
 ghost use mathlib.Core.Path.{_≡_};
 ghost use Prim.Native.Nat.{_+_, _≤_};
 ghost use lib.ListN.{length};
-ghost use Rattle.byte_layout.specs.Stored.{bytesAt};
 ghost use Rattle.ultra_format.specs.Decoding.{kernelAt};
 ghost use Rattle.ultra_format.specs.Records.{kernelRecord, blankKernel};
+ghost use Rattle.ultra_layout.specs.Sizes.{kernelSize};
 use ultra_format::KernelRecord;
-
-fn guid(bytes: &[u8], at: usize) -> [u8; 16]
-    requires { ⌜ at + 16 ≤ length (now bytes) ⌝ }
-    ensures { λ r. ⌜ r ≡ bytesAt (now (bytes .entry)) at 16 ⌝ }
-{
-    let mut guid = [0u8; 16];
-    byte_layout::copy(bytes, at, 16, &mut guid);
-    guid
-}
+use ultra_layout::kernel;
 
 pub fn blank() -> KernelRecord
     ensures { λ r. ⌜ r ≡ kernelRecord blankKernel ⌝ }
@@ -34,19 +26,19 @@ pub fn blank() -> KernelRecord
 
 // The members of the kernel that starts at `at`.
 pub fn read(bytes: &[u8], at: usize) -> KernelRecord
-    requires { ⌜ at + 336 ≤ length (now bytes) ⌝ }
+    requires { ⌜ at + kernelSize ≤ length (now bytes) ⌝ }
     ensures { λ r. ⌜ r ≡ kernelRecord (kernelAt (now (bytes .entry)) at) ⌝ }
 {
     let mut path = [0u8; 256];
-    byte_layout::copy_text(bytes, at + 80, &mut path);
-    let physical_base = words::load_u64(bytes, at + 8);
-    let virtual_base = words::load_u64(bytes, at + 16);
-    let size = words::load_u64(bytes, at + 24);
-    let partition_type = words::load_u64(bytes, at + 32);
-    let disk_guid = guid(bytes, at + 40);
-    let partition_guid = guid(bytes, at + 56);
-    let disk_index = words::load_u32(bytes, at + 72);
-    let partition_index = words::load_u32(bytes, at + 76);
+    byte_layout::copy_text(bytes, at + kernel::PATH, &mut path);
+    let physical_base = kernel::physical_base(bytes, at);
+    let virtual_base = kernel::virtual_base(bytes, at);
+    let size = kernel::size(bytes, at);
+    let partition_type = kernel::partition_type(bytes, at);
+    let disk_guid = kernel::disk_guid(bytes, at);
+    let partition_guid = kernel::partition_guid(bytes, at);
+    let disk_index = kernel::disk_index(bytes, at);
+    let partition_index = kernel::partition_index(bytes, at);
     KernelRecord {
         physical_base,
         virtual_base,

@@ -12,6 +12,7 @@ ghost use Rattle.ultra_format.specs.Members.{sizeSuits};
 ghost use Rattle.ultra_format.specs.Decoding.{decoded};
 ghost use Rattle.ultra_format.specs.Records.{blankRecords, recordsOf};
 use ultra_format::Records;
+use ultra_layout::types;
 
 pub fn blank() -> Records
     ensures { λ r. ⌜ r ≡ blankRecords ⌝ }
@@ -35,19 +36,19 @@ pub fn records(bytes: &[u8], at: usize, size: u32, kind: u32) -> Records
     ensures { λ r. ⌜ r ≡ recordsOf (decoded (now (bytes .entry)) at size kind) ⌝ }
 {
     let mut records = blank();
-    if kind == 1 {
+    if kind == types::PLATFORM {
         records.platform = platform::read(bytes, at, size);
         return records;
     }
-    if kind == 2 {
+    if kind == types::KERNEL {
         records.kernel = kernel::read(bytes, at);
         return records;
     }
-    if kind == 4 {
+    if kind == types::MODULE {
         records.module = module::read(bytes, at);
         return records;
     }
-    if kind == 6 {
+    if kind == types::FRAMEBUFFER {
         records.framebuffer = framebuffer::read(bytes, at);
     }
     records

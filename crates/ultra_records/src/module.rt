@@ -4,7 +4,9 @@ ghost use Prim.Native.Nat.{_+_, _≤_};
 ghost use lib.ListN.{length};
 ghost use Rattle.ultra_format.specs.Decoding.{moduleAt};
 ghost use Rattle.ultra_format.specs.Records.{moduleRecord, blankModule};
+ghost use Rattle.ultra_layout.specs.Sizes.{moduleSize};
 use ultra_format::ModuleRecord;
+use ultra_layout::module;
 
 pub fn blank() -> ModuleRecord
     ensures { λ r. ⌜ r ≡ moduleRecord blankModule ⌝ }
@@ -19,14 +21,14 @@ pub fn blank() -> ModuleRecord
 
 // The members of the module that starts at `at`.
 pub fn read(bytes: &[u8], at: usize) -> ModuleRecord
-    requires { ⌜ at + 96 ≤ length (now bytes) ⌝ }
+    requires { ⌜ at + moduleSize ≤ length (now bytes) ⌝ }
     ensures { λ r. ⌜ r ≡ moduleRecord (moduleAt (now (bytes .entry)) at) ⌝ }
 {
     let mut name = [0u8; 64];
-    byte_layout::copy_text(bytes, at + 16, &mut name);
-    let kind = words::load_u32(bytes, at + 12);
-    let address = words::load_u64(bytes, at + 80);
-    let size = words::load_u64(bytes, at + 88);
+    byte_layout::copy_text(bytes, at + module::NAME, &mut name);
+    let kind = module::kind(bytes, at);
+    let address = module::address(bytes, at);
+    let size = module::size(bytes, at);
     ModuleRecord {
         kind,
         name,

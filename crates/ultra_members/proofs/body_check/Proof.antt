@@ -8,24 +8,6 @@ use Rattle.ultra_members.proofs.Bodies.{of-type, of-other}
 use Rattle.ultra_members.proofs.body_check.Statement.{statement}
 use Rattle.ultra_members.proofs.body_check.Tie as tie
 
-check-requires : tie.Need-check-requires
-check-requires c κs = search needs
-
-check-requires-2 : tie.Need-check-requires-2
-check-requires-2 c κs = search needs
-
-check-requires-3 : tie.Need-check-requires-3
-check-requires-3 c κs = search needs
-
-check-requires-4 : tie.Need-check-requires-4
-check-requires-4 c κs = search needs
-
-check-requires-5 : tie.Need-check-requires-5
-check-requires-5 c κs = search needs
-
-check-requires-6 : tie.Need-check-requires-6
-check-requires-6 c κs = search needs
-
 returns : tie.Need-returns
 unfolding decoded
 returns c = c .check .ensures ∙ of-type _ _ _ (c .before .match .keys1) refl
@@ -57,12 +39,12 @@ pub body-check-spec : {M : Type 1} → statement M
 body-check-spec =
     tie.close
     (tie.spec
-    check-requires
-    check-requires-2
-    check-requires-3
-    check-requires-4
-    check-requires-5
-    check-requires-6
+    (λ c κs. search needs)
+    (λ c κs. search needs)
+    (λ c κs. search needs)
+    (λ c κs. search needs)
+    (λ c κs. search needs)
+    (λ c κs. search needs)
     returns
     returns-2
     returns-3

@@ -11,12 +11,6 @@ use Rattle.ultra_arguments.proofs.Judged.{judged, line-form, line-text}
 use Rattle.ultra_arguments.proofs.command_line.check.Statement.{statement}
 use Rattle.ultra_arguments.proofs.command_line.check.Tie as tie
 
-all-ascii-requires : tie.Need-all-ascii-requires
-all-ascii-requires c κs = search needs
-
-first-broken-requires : tie.Need-first-broken-requires
-first-broken-requires c κs = search needs
-
 returns : tie.Need-returns
 unfolding bodyGiven writtenSize sizeSuits values texts ranges ordered
 returns c =
@@ -24,4 +18,9 @@ returns c =
     c .first-broken .ensures ∙ judged true (bodyGiven (Addition.addCommandLine t)) (line-form t) refl (c .before .all-ascii .ensures ∙ line-text t) refl refl
 
 pub check-spec : {M : Type 1} → statement M
-check-spec = tie.close (tie.spec all-ascii-requires first-broken-requires returns)
+check-spec =
+    tie.close
+    (tie.spec
+    (λ c κs. search needs)
+    (λ c κs. search needs)
+    returns)

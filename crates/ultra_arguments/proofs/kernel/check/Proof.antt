@@ -1,41 +1,25 @@
 -- `ultra_arguments::kernel::check` meets its contract: each test answers for its rule.
 -- Assumes nothing.
-use mathlib.Core.Path.{_∙_, refl}
-use mathlib.Core.Bool.{true}
-use Rattle.ultra_format.specs.Members.{memberCheck}
+use mathlib.Core.Path.{_∙_}
+use mathlib.Core.Bool.{true, _&&_}
 use borrow.Author.Needs.{needs}
+use Rattle.address_ranges.specs.Ranges.{rangeFits}
+use Rattle.ultra_format.specs.Members.{kernelValues, memberCheck}
 use Rattle.ultra_arguments.proofs.kernel.check.Statement.{statement}
 use Rattle.ultra_arguments.proofs.kernel.check.Tie as tie
 
-guids-formed-requires : tie.Need-guids-formed-requires
-guids-formed-requires c κs = search needs
-
-kernel-requires : tie.Need-kernel-requires
-kernel-requires c κs = search needs
-
-path-requires : tie.Need-path-requires
-path-requires c κs = search needs
-
-both-fit-requires : tie.Need-both-fit-requires
-both-fit-requires c κs = search needs
-
-first-broken-requires : tie.Need-first-broken-requires
-first-broken-requires c κs = search needs
-
 returns : tie.Need-returns
 returns c =
-    let d = c .before in
-    let t = d .before in
-    let v = t .before in
-    c .first-broken .ensures ∙ (λ i. memberCheck (v .before .guids-formed .ensures i) (v .kernel .ensures i) (t .path .ensures i) (d .both-fit .ensures i) true)
+    let t = c .before in
+    let f = t .before in
+    let a = f .before .before .before .before .args in
+    c .check .ensures
+    ∙ (λ i. memberCheck
+    (f .guids-formed .ensures i)
+    (kernelValues (a .phys) (a .virt) (a .size) (a .partition-type))
+    (t .path .ensures i)
+    (rangeFits (a .phys) (a .size) && rangeFits (a .virt) (a .size))
+    true)
 
 pub check-spec : {M : Type 1} → statement M
-check-spec =
-    tie.close
-    (tie.spec
-    guids-formed-requires
-    kernel-requires
-    path-requires
-    both-fit-requires
-    first-broken-requires
-    returns)
+check-spec = tie.close (tie.spec (λ c κs. search needs) (λ c κs. search needs) (λ c κs. search needs) returns)

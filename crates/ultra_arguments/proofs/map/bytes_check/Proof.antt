@@ -14,9 +14,6 @@ returns : tie.Need-returns
 unfolding givenCheck
 returns c = simp (ne-eqb _ _ (c .if1 .taken))
 
-entries-check-requires : tie.Need-entries-check-requires
-entries-check-requires c κs = search needs
-
 returns-2 : tie.Need-returns-2
 unfolding givenCheck bodyCheck
 returns-2 c =
@@ -24,4 +21,9 @@ returns-2 c =
     rw (eq-eqb _ _ (c .before .if1 .left), map-given-size b, map-given b) (c .entries-check .ensures)
 
 pub bytes-check-spec : {M : Type 1} → statement M
-bytes-check-spec = tie.close (tie.spec returns entries-check-requires returns-2)
+bytes-check-spec =
+    tie.close
+    (tie.spec
+    returns
+    (λ c κs. search needs)
+    returns-2)

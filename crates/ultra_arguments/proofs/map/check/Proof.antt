@@ -10,18 +10,6 @@ use Rattle.ultra_arguments.proofs.Judged.{judged, map-form}
 use Rattle.ultra_arguments.proofs.map.check.Statement.{statement}
 use Rattle.ultra_arguments.proofs.map.check.Tie as tie
 
-all-typed-requires : tie.Need-all-typed-requires
-all-typed-requires c κs = search needs
-
-all-fit-requires : tie.Need-all-fit-requires
-all-fit-requires c κs = search needs
-
-all-ordered-requires : tie.Need-all-ordered-requires
-all-ordered-requires c κs = search needs
-
-first-broken-requires : tie.Need-first-broken-requires
-first-broken-requires c κs = search needs
-
 returns : tie.Need-returns
 unfolding bodyGiven writtenSize sizeSuits values texts ranges ordered
 returns c =
@@ -34,8 +22,8 @@ pub check-spec : {M : Type 1} → statement M
 check-spec =
     tie.close
     (tie.spec
-    all-typed-requires
-    all-fit-requires
-    all-ordered-requires
-    first-broken-requires
+    (λ c κs. search needs)
+    (λ c κs. search needs)
+    (λ c κs. search needs)
+    (λ c κs. search needs)
     returns)

@@ -7,12 +7,6 @@ use borrow.Author.Needs.{needs}
 use Rattle.ultra_arguments.proofs.platform.check.Statement.{statement}
 use Rattle.ultra_arguments.proofs.platform.check.Tie as tie
 
-ascii-requires : tie.Need-ascii-requires
-ascii-requires c κs = search needs
-
-first-broken-requires : tie.Need-first-broken-requires
-first-broken-requires c κs = search needs
-
 returns : tie.Need-returns
 returns c =
     let t = c .before in
@@ -20,4 +14,9 @@ returns c =
     c .first-broken .ensures ∙ (λ i. memberCheck (a .complete) (nonzero (a .kind)) (t .ascii .ensures i) true true)
 
 pub check-spec : {M : Type 1} → statement M
-check-spec = tie.close (tie.spec ascii-requires first-broken-requires returns)
+check-spec =
+    tie.close
+    (tie.spec
+    (λ c κs. search needs)
+    (λ c κs. search needs)
+    returns)

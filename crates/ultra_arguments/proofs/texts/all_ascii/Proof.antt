@@ -8,7 +8,7 @@ use borrow.Author.Tests.{lt-ltb, le-ltb}
 use borrow.Author.Needs.{needs}
 use lib.ListN.{length, drop, drop-of-length-le}
 use Rattle.ultra_format.specs.Members.{every, ascii}
-use Rattle.ultra_arguments.proofs.Every.{none-left, first-fails, first-passes, next-left}
+use Rattle.ultra_rules.proofs.Every.{none-left, first-fails, first-passes, next-left}
 use Rattle.ultra_arguments.proofs.texts.all_ascii.Statement.{statement}
 use Rattle.ultra_arguments.proofs.texts.all_ascii.Tie as tie
 
@@ -27,9 +27,6 @@ is-ascii x n h = simp (lt-ltb 0 x (omega arith), lt-ltb x 128 (omega arith))
 loop-holds : tie.Need-loop-holds Inv-loop μ-loop
 loop-holds c = (search needs, refl)
 
-shared-slice-read-byte : tie.Need-shared-slice-read-byte Inv-loop μ-loop
-shared-slice-read-byte c = search needs
-
 returns : tie.Need-returns Inv-loop μ-loop
 returns c =
     let d = c .before .before in
@@ -39,12 +36,6 @@ returns-2 : tie.Need-returns-2 Inv-loop μ-loop
 returns-2 c =
     let d = c .before .before .before in
     sym (d .before .loop .inv .1 ∙ first-fails ascii (next-left _ _ (d .loop-test .taken)) (not-ascii _ (c .if2 .taken)))
-
-add-i : tie.Need-add-i Inv-loop μ-loop
-add-i c = search needs
-
-loop-less : tie.Need-loop-less Inv-loop μ-loop
-loop-less c = search needs
 
 loop-again : tie.Need-loop-again Inv-loop μ-loop
 loop-again c =
@@ -61,10 +52,10 @@ all-ascii-spec =
     Inv-loop
     μ-loop
     loop-holds
-    shared-slice-read-byte
+    (λ c. search needs)
     returns
     returns-2
-    add-i
-    loop-less
+    (λ c. search needs)
+    (λ c. search needs)
     loop-again
     returns-3)

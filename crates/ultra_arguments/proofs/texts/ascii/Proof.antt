@@ -11,12 +11,14 @@ returns : tie.Need-returns
 unfolding asciiText
 returns c = simp (le-ltb _ _ (c .if1 .taken))
 
-all-ascii-requires : tie.Need-all-ascii-requires
-all-ascii-requires c κs = search needs
-
 returns-2 : tie.Need-returns-2
 unfolding asciiText
 returns-2 c = simp (lt-ltb _ _ (c .before .if1 .left)) (c .all-ascii .ensures)
 
 pub ascii-spec : {M : Type 1} → statement M
-ascii-spec = tie.close (tie.spec returns all-ascii-requires returns-2)
+ascii-spec =
+    tie.close
+    (tie.spec
+    returns
+    (λ c κs. search needs)
+    returns-2)

@@ -11,14 +11,8 @@ returns c = path-long _ (c .if1 .taken)
 returns-2 : tie.Need-returns-2
 returns-2 c = path-empty _ (c .if2 .taken)
 
-shared-slice-read-if3 : tie.Need-shared-slice-read-if3
-shared-slice-read-if3 c = search needs
-
 returns-3 : tie.Need-returns-3
 returns-3 c = path-elsewhere _ (c .if3 .taken)
-
-text-length-requires : tie.Need-text-length-requires
-text-length-requires c κs = search needs
 
 returns-4 : tie.Need-returns-4
 returns-4 c = path-given _ _ (c .before .before .before .before .if1 .left) (c .before .if3 .left) (c .text-length .ensures .0)
@@ -26,4 +20,10 @@ returns-4 c = path-given _ _ (c .before .before .before .before .if1 .left) (c .
 pub path-spec : {M : Type 1} → statement M
 path-spec =
     tie.close
-    (tie.spec returns returns-2 shared-slice-read-if3 returns-3 text-length-requires returns-4)
+    (tie.spec
+    returns
+    returns-2
+    (λ c. search needs)
+    returns-3
+    (λ c κs. search needs)
+    returns-4)

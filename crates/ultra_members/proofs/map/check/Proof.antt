@@ -8,28 +8,13 @@ use denote.Ref.{now}
 use Rattle.ultra_format.specs.Contexts.{Body.memoryMap}
 use Rattle.ultra_format.specs.Members.{bodyCheck}
 use Rattle.ultra_format.specs.Decoding.{entriesAt}
+use Rattle.ultra_rules.proofs.Judged.{misfits}
 use Rattle.ultra_members.proofs.Bodies.{map-misfits}
-use Rattle.ultra_members.proofs.Chains.{stop-form}
 use Rattle.ultra_members.proofs.map.check.Statement.{statement}
 use Rattle.ultra_members.proofs.map.check.Tie as tie
 
-sub-if1 : tie.Need-sub-if1
-sub-if1 c = search needs
-
 returns : tie.Need-returns
-returns c = stop-form _ _ (map-misfits _ _ _ (c .before .before .pre .1) (c .if1 .taken))
-
-add-entries-check : tie.Need-add-entries-check
-add-entries-check c = search needs
-
-sub-entries-check : tie.Need-sub-entries-check
-sub-entries-check c = search needs
-
-cast-entries-check : tie.Need-cast-entries-check
-cast-entries-check c = search needs
-
-entries-check-requires : tie.Need-entries-check-requires
-entries-check-requires c κs = search needs
+returns c = misfits _ _ (map-misfits _ _ _ (c .before .before .pre .1) (c .if1 .taken))
 
 returns-2 : tie.Need-returns-2
 returns-2 c =
@@ -40,5 +25,4 @@ returns-2 c =
 
 pub check-spec : {M : Type 1} → statement M
 check-spec =
-    tie.close
-    (tie.spec sub-if1 returns add-entries-check sub-entries-check cast-entries-check entries-check-requires returns-2)
+    tie.close (tie.spec (λ c. search needs) returns (λ c. search needs) (λ c κs. search needs) returns-2)

@@ -1,0 +1,18 @@
+-- The least sizes of document 01's table, for contracts: how many bytes an attribute of each type, or a map's entry, has at least.
+-- Assumes nothing.
+use Prim.Native.Nat.{ℕ}
+
+abbrev pub platformSize : ℕ
+platformSize = 56
+
+abbrev pub kernelSize : ℕ
+kernelSize = 336
+
+abbrev pub entrySize : ℕ
+entrySize = 24
+
+abbrev pub moduleSize : ℕ
+moduleSize = 96
+
+abbrev pub framebufferSize : ℕ
+framebufferSize = 32

@@ -1,0 +1,4 @@
+pub mod Every
+pub mod Judged
+pub mod Letters
+pub mod Products
