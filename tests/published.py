@@ -243,11 +243,16 @@ def clauses_of(text, at):
 
 
 def passed_on(call):
-    """Whether the crate passes the function of that file on under the call's path."""
+    """Whether the path's crate passes the function of that file on under the path: as its own, or as that of the file's crate."""
     *owners, name = call.path.split("::")
     crate, module = call.file.parents[1].name, call.file.stem
     if owners and owners[0][0].isupper():
         owners, name = [crate], owners[0]
+    if owners and owners[0] != crate:
+        face = read(call.file.parents[2] / owners[0] / "src/lib.rt").split("\n")
+        if f"pub use {crate}::{[*owners, name][1]};" not in face:
+            return False
+        owners[0] = crate
     if not owners or (owners, module) == ([crate], "lib"):
         return True
     line = {(crate,): f"pub use {module}::{name};", (crate, module): f"pub mod {module};"}.get(tuple(owners))

@@ -19,7 +19,8 @@ ADDITIONS = "crates/ultra_format/specs/Additions.antt"
 C = "crates/ultra/src/calls.rt"
 LIB = "crates/making/src/lib.rt"
 ADDS = "crates/making/src/adds.rt"
-MEMBERS = "crates/making/src/members.rt"
+ADDING = "crates/adding/src/lib.rt"
+MEMBERS = "crates/adding/src/members.rt"
 ASKING = "crates/asking/src/lib.rt"
 CURSOR = "crates/asking/src/cursor.rt"
 
@@ -39,7 +40,7 @@ FILES = {
 |---|---|---|
 | `making::begin(buf) -> Answer` | making, src/lib.rt | `begun`, with the buffer |
 | `making::add_module`, `add_line` | making, src/adds.rt | `added` of `addModule given` .. |
-| `making::members::add_module`, `add_line` | making, src/members.rt | `addedMembers`: one by one |
+| `making::members::add_module`, `add_line` | adding, src/members.rt | `addedMembers`: one by one |
 | `Cursor::first() -> Cursor` | asking, src/cursor.rt | `cursorAt`: index 0, offset 8 |
 | `Cursor::step(self, buf) -> Step` | the same | `stepOf` |
 | `asking::copy(buf, out: &mut [u8]) -> Answer` | asking, src/lib.rt | `copiedTo`, with the output |
@@ -182,12 +183,14 @@ pub extern "C" fn ultra_add_module(
     0
 }
 """,
+    ADDING: """pub mod members;
+""",
     LIB: """mod adds;
-pub mod members;
 
 ghost use mathlib.Core.Path.{_≡_};
 ghost use Rattle.making.specs.Making.{begun};
 pub use adds::add_line;
+pub use adding::members;
 pub use adds::add_module;
 
 pub fn begin(buf: &mut [u8]) -> Answer
@@ -415,6 +418,21 @@ class Names(Case):
         self.change(ASKING, "pub use cursor::Cursor;", "pub use others::Cursor;")
         self.told(*(f"Cursor::{name}, {CURSOR}: lib.rt does not pass it on under this path, expected a `pub use` or `pub mod`"
                     for name in ("first", "step")))
+
+    def test_a_function_of_another_crate(self):
+        unpassed = [f"making::members::{name}, {MEMBERS}: lib.rt does not pass it on under this path, expected a `pub use` or `pub mod`"
+                    for name in ("add_module", "add_line")]
+        self.change(LIB, "pub use adding::members;", "pub use others::members;")
+        self.told(*unpassed)
+        self.change(ADDING, "pub mod members;", "mod members;")
+        self.told(*unpassed)
+        self.change(README, "making, src/lib.rt", "adding, src/lib.rt")
+        self.change(ADDING, "pub mod members;", FILES[LIB].replace("·specs", "") + "pub mod members;")
+        self.told(f"making::begin, {ADDING}: lib.rt does not pass it on under this path, expected a `pub use` or `pub mod`")
+        self.change(README, "making, src/lib.rt", "adding, src/lib.rt")
+        self.change(ADDING, "pub mod members;", FILES[LIB].replace("·specs", "") + "pub mod members;")
+        self.change(LIB, "pub use adding::members;", "pub use adding::begin;\npub use adding::members;")
+        self.told()
 
 
 class Demand2(Case):

@@ -25,7 +25,7 @@ use Rattle.ultra_format.specs.declared.records.OptionalU8.{OptionalU8}
 use Rattle.ultra_format.specs.declared.records.OptionalU8.the-variants as narrow
 use Rattle.refusals.proofs.Chains.{both-hold}
 use Rattle.ultra_format.proofs.Bodies.{lateFields}
-use Rattle.ultra_building.proofs.Adding.{given-holds}
+use Rattle.ultra_adding.proofs.Adding.{given-holds}
 use Rattle.ultra_format.specs.Plain.{writtenSize}
 use Rattle.ultra_format.proofs.Attributes.{width-attribute}
 use Rattle.byte_layout.proofs.Cells.{length-filled}

@@ -31,9 +31,10 @@ use Rattle.ultra_acceptance.specs.Acceptance.{HoldsContext}
 use Rattle.ultra_acceptance.proofs.Types.{fits, Ordered, ordered}
 use Rattle.ultra_acceptance.proofs.Walked.{accepted}
 use Rattle.ultra_acceptance.proofs.Acceptance.{complete}
-use Rattle.ultra_building.specs.Building.{counted, withAttribute, addedAt, added}
-use Rattle.ultra_building.proofs.Placements.{Admits, admits}
-use Rattle.ultra_building.proofs.Adding.{length-counted, checkOn, added-held}
+use Rattle.ultra_appending.specs.Appending.{counted}
+use Rattle.ultra_adding.specs.Adding.{withAttribute, addedAt, added}
+use Rattle.ultra_appending.proofs.Appending.{Appendable, appendable, length-counted}
+use Rattle.ultra_adding.proofs.Adding.{checkOn, added-held}
 use Rattle.demand_2.specs.Arguments.{AdditionTyped}
 use Rattle.demand_2.specs.Demand2.{Appended}
 use Rattle.demand_2.proofs.Additions.{fits-append, given-meets, given-width, given-length, given-type, attribute-fits}
@@ -113,8 +114,8 @@ types-same b d (suc n) h = ap₂ (λ (t : ℕ) (l : List ℕ). t ∷ l) (h n (om
 
 -- ---- the buffer with the attribute
 module _ (b : List ℕ) (c : Context) (g : Addition) (h : HoldsContext 0 b c) (y : AdditionTyped g) (z : checkOn b c g ≡ 0) where
-  spot : Admits (typesBefore b (storedCount b)) (roomOf b) (used c) (typeGiven g) (additionCheck g) (sizeGiven g)
-  spot = admits _ _ _ _ _ _ z
+  spot : Appendable (typesBefore b (storedCount b)) (roomOf b) (used c) (typeGiven g) (additionCheck g) (sizeGiven g)
+  spot = appendable _ _ _ _ _ _ z
 
   pub sound : additionCheck g ≡ 0
   sound = spot .sound

@@ -20,7 +20,9 @@ use Rattle.ultra_format.specs.Plain.{writtenSize}
 use Rattle.ultra_format.specs.Additions.{bodyGiven, formed, givenCheck}
 use Rattle.refusals.specs.declared.Answer.{Answer}
 use Rattle.refusals.specs.declared.Answer.the-variants.{Done, Refused}
-use Rattle.ultra_building.specs.Building.{emptyHead, begun, placement, addedAt, addedMembers}
+use Rattle.ultra_appending.specs.Appending.{appendOffset}
+use Rattle.ultra_adding.specs.Adding.{addedAt, addedMembers}
+use Rattle.ultra_building.specs.Building.{emptyHead, begun}
 use Rattle.ultra_acceptance.specs.Acceptance.{HoldsContext}
 use Rattle.ultra_acceptance.specs.Steps.{StepsThrough}
 use Rattle.ultra_acceptance.proofs.Steps.{stepping-through}
@@ -94,7 +96,7 @@ same a b e = cc
 
 kept-members : (b : List ℕ) (f : Bool) (x : Body) (a : Answer) → answer (addedMembers b f x .0) ≡ answer a → (numberOf a ≡ 0 → ⊥) → addedMembers b f x .1 ≡ b
 unfolding addedMembers
-kept-members b f x a e n = go (placement b (typeOf x) (givenCheck f x) (writtenSize x)) e
+kept-members b f x a e n = go (appendOffset b (typeOf x) (givenCheck f x) (writtenSize x)) e
   where
     go : (p : Answer) → answer (addedAt b x p .0) ≡ answer a → addedAt b x p .1 ≡ b
     go (Done v) w = absurd (n (ap numberOf (same a (Done (v + writtenSize x)) (sym w))))

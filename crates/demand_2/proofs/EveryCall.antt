@@ -32,7 +32,9 @@ use Rattle.ultra_stepping.specs.Stepping.{cursorAt}
 use Rattle.ultra_stepping.specs.declared.cursor.Cursor.{Cursor}
 use Rattle.ultra_acceptance.specs.Acceptance.{HoldsContext}
 use Rattle.ultra_acceptance.proofs.Acceptance.{accepts-exactly}
-use Rattle.ultra_building.specs.Building.{begun, appendCheck, placement, addedMembers, added}
+use Rattle.ultra_appending.specs.Appending.{appendCheck, appendOffset}
+use Rattle.ultra_adding.specs.Adding.{addedMembers, added}
+use Rattle.ultra_building.specs.Building.{begun}
 use Rattle.refusals.specs.declared.Answer.the-variants.{Done}
 use Rattle.demand_3.specs.Witness.{everyPlatformRecord, everyKernelRecord, everyEntries, everyLine}
 use Rattle.ultra_acceptance.specs.Steps.{StepsThrough}
@@ -247,7 +249,7 @@ abbrev anyPlatform : Addition
 anyPlatform = addPlatform (everyPlatformRecord .platform)
 
 other-answered : added otherHead anyPlatform .0 ≡ Done 96
-unfolding addedMembers placement usedLength headCheck attributesAnswer start typesBefore numberAt appendCheck placeCheck placed occurs bodyGiven trimmed writtenSize givenCheck bodyCheck sizeSuits values texts asciiText every ranges ordered
+unfolding addedMembers appendOffset usedLength headCheck attributesAnswer start typesBefore numberAt appendCheck placeCheck placed occurs bodyGiven trimmed writtenSize givenCheck bodyCheck sizeSuits values texts asciiText every ranges ordered
 other-answered = refl
 
 pub other : AllTyped (adds sixAdditions) → Appended otherHead (contextOf otherHead) anyPlatform (added otherHead anyPlatform .1) 96

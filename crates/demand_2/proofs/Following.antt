@@ -23,9 +23,10 @@ use Rattle.ultra_format.proofs.Attributes.{at, sized, Says, opens-says}
 use Rattle.byte_layout.proofs.Cells.{at-opens}
 use Rattle.ultra_acceptance.specs.Acceptance.{HoldsContext}
 use Rattle.ultra_acceptance.proofs.Acceptance.{complete}
-use Rattle.ultra_building.specs.Building.{emptyHead, begun, appendCheck, addedAt, addedMembers, added}
-use Rattle.ultra_building.proofs.Adding.{membersCheckOn, members-held, checkOn}
-use Rattle.ultra_building.proofs.Placements.{Admits, admits}
+use Rattle.ultra_building.specs.Building.{emptyHead, begun}
+use Rattle.ultra_appending.specs.Appending.{appendCheck}
+use Rattle.ultra_adding.specs.Adding.{addedAt, addedMembers, added}
+use Rattle.ultra_adding.proofs.Adding.{membersCheckOn, members-held, checkOn}
 use Rattle.demand_2.specs.Calls.{Members, membersFormed, membersBody, Write.begin, Write.add, Write.addMembers}
 use Rattle.demand_2.specs.Calls.{Call, Call.write, Call.ask, Reply, replyOf, runWrite, run}
 use Rattle.demand_2.specs.CallsFromC.{CallFromC, CallFromC.writeFromC, CallFromC.askFromC, replyFromC, runWriteFromC, runFromC, asked, replyCrossed}
@@ -33,6 +34,7 @@ use Rattle.demand_2.specs.CallsFromC.{QuestionFromC.ultraRead, QuestionF
 use Rattle.demand_2.specs.CallsFromC.{WriteFromC.ultraBegin, WriteFromC.ultraAddPlatform, WriteFromC.ultraAddKernel, WriteFromC.ultraAddMap, WriteFromC.ultraAddModule, WriteFromC.ultraAddCommandLine, WriteFromC.ultraAddFramebuffer}
 use Rattle.demand_2.specs.CallsFromC.{AnyCall, AnyCall.fromRattle, AnyCall.fromC, inRattle, runAny, after}
 use Rattle.demand_2.specs.Arguments.{AdditionTyped, MembersTyped, CallTyped, AllTyped}
+use Rattle.ultra_appending.proofs.Appending.{Appendable, appendable}
 use Rattle.demand_2.specs.Model.{attributesGiven, contextGiven, typesAfter, membersRefusal, refusalOf, giving, appended, listAfter, listAfterAll}
 use Rattle.demand_2.specs.Demand2.{Follows}
 use Rattle.demand_2.proofs.GivenMembers.{RecordOf, record-of, same-run}
@@ -154,7 +156,7 @@ module _ (d : List ℕ) (gs : List Addition) (h : Keeps d gs) where
 
   -- what is not refused breaks none of 12 to 16
   unbroken : (f : Bool) (x : Body) → membersRefusal (roomOf d) gs f x ≡ 0 → givenCheck f x ≡ 0
-  unbroken f x e = admits (typesAfter [] gs) (roomOf d) (used now) (typeOf x) (givenCheck f x) (writtenSize x) e .sound
+  unbroken f x e = appendable (typesAfter [] gs) (roomOf d) (used now) (typeOf x) (givenCheck f x) (writtenSize x) e .sound
 
   add-follows : (g : Addition) → AdditionTyped g → Keeps (added d g .1) (appended (refusalOf (roomOf d) gs g) gs g) × (length (added d g .1) ≡ length d)
   unfolding attributesGiven

@@ -21,12 +21,13 @@ use Rattle.ultra_format.specs.Additions.{bodyGiven, formed, givenCheck, sizeGiv
 use Rattle.refusals.specs.declared.Answer.{Answer}
 use Rattle.refusals.specs.declared.Answer.the-variants.{Done, Refused}
 use Rattle.ultra_acceptance.proofs.Walked.{BodyHolds}
-use Rattle.ultra_building.specs.Building.{placement, addedAt, addedMembers}
-use Rattle.ultra_building.proofs.Placements.{placed}
-use Rattle.ultra_building.proofs.Adding.{given-holds}
-use Rattle.ultra_building.proofs.GivenMembers.{guids-wide}
+use Rattle.ultra_adding.specs.Adding.{addedAt, addedMembers}
+use Rattle.ultra_adding.proofs.Adding.{given-holds}
+use Rattle.ultra_adding.proofs.GivenMembers.{guids-wide}
 use Rattle.demand_2.specs.Calls.{Members, membersFormed, membersBody, answerAnd, runWrite}
 use Rattle.demand_2.specs.Calls.{Members.platformMembers, Members.kernelMembers, Members.mapMembers, Members.moduleMembers, Write.add, Write.addMembers}
+use Rattle.ultra_appending.specs.Appending.{appendOffset}
+use Rattle.ultra_appending.proofs.Appending.{appended-at}
 use Rattle.demand_2.specs.Arguments.{NumbersTyped, AdditionTyped, MembersTyped}
 use Rattle.demand_2.specs.Model.{giving}
 use Rattle.demand_2.specs.Demand2.{AsRecord}
@@ -92,8 +93,8 @@ module _ (b : List ℕ) (m : Members) where
 
   pub as-record : MembersTyped m → AsRecord b m
   unfolding runWrite addedMembers
-  as-record y = go (placement b (typeOf (membersBody m)) (givenCheck (membersFormed m) (membersBody m)) (writtenSize (membersBody m))) refl
+  as-record y = go (appendOffset b (typeOf (membersBody m)) (givenCheck (membersFormed m) (membersBody m)) (writtenSize (membersBody m))) refl
     where
-      go : (p : Answer) → placement b (typeOf (membersBody m)) (givenCheck (membersFormed m) (membersBody m)) (writtenSize (membersBody m)) ≡ p → AsRecord b m
-      go (Done n) e = let r = record-of m y (placed b _ _ _ n e .1 .sound) in inr (r .typed, r .body, same-run r)
+      go : (p : Answer) → appendOffset b (typeOf (membersBody m)) (givenCheck (membersFormed m) (membersBody m)) (writtenSize (membersBody m)) ≡ p → AsRecord b m
+      go (Done n) e = let r = record-of m y (appended-at b _ _ _ n e .1 .sound) in inr (r .typed, r .body, same-run r)
       go (Refused r) e = inl (r, rw e)

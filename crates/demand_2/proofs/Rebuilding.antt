@@ -24,7 +24,9 @@ use Rattle.ultra_format.proofs.Attributes.{attribute, at, sized, width-layout, 
 use Rattle.ultra_places.proofs.PlaceLaws.{length-types}
 use Rattle.ultra_acceptance.proofs.Walked.{accepted}
 use Rattle.ultra_acceptance.proofs.Acceptance.{complete}
-use Rattle.ultra_building.specs.Building.{appendCheck, begun, added}
+use Rattle.ultra_appending.specs.Appending.{appendCheck}
+use Rattle.ultra_adding.specs.Adding.{added}
+use Rattle.ultra_building.specs.Building.{begun}
 use Rattle.ultra_acceptance.specs.Acceptance.{HoldsContext}
 use Rattle.demand_2.specs.Calls.{Write.add, Call.write, runWrite}
 use Rattle.demand_2.specs.CallsFromC.{after, replies}

@@ -48,7 +48,7 @@ use Rattle.ultra_questions.specs.CommandLineQuestion.{commandLinePart}
 use Rattle.ultra_listing.specs.Listing.{contextLines, refusedLines, linesOf, textListed, listed}
 use Rattle.ultra_questions.proofs.ByContext.{questions-by-context}
 use Rattle.ultra_questions.proofs.QuestionRefusals.{refusals-pass-on}
-use Rattle.ultra_building.specs.Building.{addedAt}
+use Rattle.ultra_adding.specs.Adding.{addedAt}
 use Rattle.demand_3.specs.Demand3.{ReadingIs}
 use Rattle.demand_3.proofs.Demand3.{demand-3}
 use Rattle.demand_2.specs.Calls.{membersFormed, membersBody, Write.begin, Write.add, Write.addMembers}

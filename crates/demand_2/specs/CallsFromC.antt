@@ -12,7 +12,8 @@ use Rattle.ultra_questions.specs.AttributeQuestion.{attributeStart}
 use Rattle.ultra_questions.specs.MapQuestion.{mapCopiedBytes}
 use Rattle.ultra_questions.specs.CommandLineQuestion.{commandLinePart}
 use Rattle.ultra_questions.specs.ModuleQuestion.{moduleHolding}
-use Rattle.ultra_building.specs.Building.{begun, addedMembers}
+use Rattle.ultra_adding.specs.Adding.{addedMembers}
+use Rattle.ultra_building.specs.Building.{begun}
 use Rattle.ultra.specs.Crossing.{answerCrossed, stepCrossed, readingCrossed, partCrossed, crossed}
 use Rattle.demand_2.specs.Calls.{Members.platformMembers, Members.kernelMembers, Members.mapMembers, Members.moduleMembers}
 use Rattle.demand_2.specs.Calls.{Write, Write.begin, Write.add, Write.addMembers}

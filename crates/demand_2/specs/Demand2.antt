@@ -37,7 +37,8 @@ use Rattle.ultra_acceptance.specs.Steps.{StepsThrough}
 use Rattle.ultra_questions.specs.declared.attributes.AttributeAnswer.{AttributeAnswer}
 use Rattle.ultra_questions.specs.AttributeQuestion.{unanswered, attributeAnswer}
 use Rattle.words.specs.Words.{numbersAt}
-use Rattle.ultra_building.specs.Building.{begun, added}
+use Rattle.ultra_adding.specs.Adding.{added}
+use Rattle.ultra_building.specs.Building.{begun}
 use Rattle.demand_3.specs.Demand3.{partAt}
 use Rattle.demand_2.specs.Calls.{Members, membersBody, Write.begin, Write.add, Write.addMembers, Question.step}
 use Rattle.demand_2.specs.Calls.{Call, Call.write, Call.ask, Reply, Reply.answer, runWrite, run}

@@ -33,7 +33,7 @@ use Rattle.ultra_questions.specs.AttributeQuestion.{unanswered, startOrCount, w
 use Rattle.ultra_questions.specs.MapQuestion.{numbers, mapIn, overBytes}
 use Rattle.ultra_questions.specs.CommandLineQuestion.{commandLineIn, textIn}
 use Rattle.ultra_questions.specs.ModuleQuestion.{moduleIn}
-use Rattle.ultra_building.specs.Building.{appendCheck}
+use Rattle.ultra_appending.specs.Appending.{appendCheck}
 use Rattle.ultra_listing.specs.Listing.{contextLines, refusedLines, textListed}
 use Rattle.demand_2.specs.Calls.{membersFormed, membersBody, Write.begin, Write.add, Write.addMembers}
 use Rattle.demand_2.specs.Calls.{Question, Question.read, Question.step, Question.askAttribute, Question.askStart, Question.askPart, Question.copyMap, Question.copyMapBytes}

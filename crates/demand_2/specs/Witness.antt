@@ -24,7 +24,8 @@ use Rattle.ultra_format.specs.declared.records.PlatformRecord.{PlatformRecord}
 use Rattle.ultra_format.specs.declared.records.OptionalU64.the-variants as wide
 use Rattle.ultra_format.specs.declared.records.OptionalU8.the-variants as narrow
 use Rattle.ultra_stepping.specs.Stepping.{cursorAt}
-use Rattle.ultra_building.specs.Building.{begun, added}
+use Rattle.ultra_building.specs.Building.{begun}
+use Rattle.ultra_adding.specs.Adding.{added}
 use Rattle.ultra_acceptance.specs.Acceptance.{HoldsContext}
 use Rattle.demand_3.specs.Witness.{everyPlatformRecord, everyKernelRecord, everyModuleRecord, everyFramebufferRecord, everyEntries, everyLine}
 use Rattle.ultra_acceptance.specs.Steps.{StepsThrough}

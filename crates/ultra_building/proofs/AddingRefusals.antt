@@ -35,12 +35,13 @@ use Rattle.ultra_acceptance.proofs.Acceptance.{accepts-exactly, used-number}
 use Rattle.ultra_acceptance.proofs.Least.{Chain, ends, try, past as beyond, link, then, settled}
 use Rattle.ultra_acceptance.proofs.Refusing.{refuses-exactly}
 use Rattle.ultra_acceptance.proofs.Rows.{Misplaced, Earlier, Repeated, Parted, place-chain}
-use Rattle.ultra_building.specs.Building.{appendCheck, placement, addedAt, addedMembers}
+use Rattle.ultra_appending.specs.Appending.{appendCheck, appendOffset}
+use Rattle.ultra_adding.specs.Adding.{addedAt, addedMembers}
+use Rattle.ultra_adding.proofs.Adding.{membersCheckOn, members-held}
 use Rattle.ultra_building.specs.AddingRefusals.{Occurs, Incomplete, AdditionBreaks, rank, FirstBroken, AddRefused, AddingRefuses, RefusedAddKeeps, AddingSucceeds, EveryAdd, OneAnswer, AddingInDigits}
 use Rattle.ultra_building.specs.AddingRefusals.{AdditionBreaks.full, AdditionBreaks.first, AdditionBreaks.second, AdditionBreaks.later, AdditionBreaks.repeat, AdditionBreaks.split}
 use Rattle.ultra_building.specs.AddingRefusals.{AdditionBreaks.unformed, AdditionBreaks.incomplete, AdditionBreaks.value, AdditionBreaks.text, AdditionBreaks.range, AdditionBreaks.order, AdditionBreaks.past}
 use Rattle.ultra_building.specs.AddingRefusals.{AddRefused.reading, AddRefused.adding}
-use Rattle.ultra_building.proofs.Adding.{membersCheckOn, members-held}
 
 -- ---- 12, a platform
 there : {n : ℕ} → present n ≡ absent → ⊥
@@ -225,7 +226,7 @@ clash p q = absurd (let z : _≡_ {A = ℕ} 0 1 = cc in omega arith)
 
 module _ (b : List ℕ) (ok : Bool) (given : Body) where
   unread : (r : Refusal) → usedLength 0 b ≡ Refused r → addedMembers b ok given .0 ≡ Refused r
-  unfolding addedMembers placement
+  unfolding addedMembers appendOffset
   unread r e = rw e
 
   read-or : Bytes b → ((r : Refusal) × (usedLength 0 b ≡ Refused r)) ⊎ ((c : Context) × HoldsContext 0 b c)
@@ -281,7 +282,7 @@ adding-refuses b ok given r y = (to-refuse b ok given (r .number) (r .offset) y,
 -- a refusal leaves the buffer as it was
 pub refused-add-keeps : RefusedAddKeeps
 unfolding addedMembers
-refused-add-keeps b ok given r e = go (placement b (typeOf given) (givenCheck ok given) (writtenSize given)) e
+refused-add-keeps b ok given r e = go (appendOffset b (typeOf given) (givenCheck ok given) (writtenSize given)) e
   where
     go : (p : Answer) → addedAt b given p .0 ≡ Refused r → addedAt b given p .1 ≡ b
     go (Done m) w = absurd (let z : _≡_ {A = ℕ} 0 1 = cc in omega arith)

@@ -14,9 +14,9 @@ use Rattle.ultra_format.specs.Records.{trimmed, platformGiven}
 use Rattle.ultra_format.specs.Additions.{platformOf, givenCheck}
 use Rattle.ultra_format.specs.declared.records.PlatformRecord.{PlatformRecord}
 use Rattle.refusals.proofs.Chains.{both-hold}
-use Rattle.ultra_building.specs.Building.{addedMembers}
+use Rattle.ultra_adding.specs.Adding.{addedMembers}
 use Rattle.ultra_building.specs.LateMembers.{numberOrZero}
-use Rattle.ultra_building.proofs.Adding.{add-broken}
+use Rattle.ultra_adding.proofs.Adding.{add-broken}
 
 -- the part of an array that its text is
 pub text-part : (l : List ℕ) (n : ℕ) → take n l ≡ trimmed l → take (n - 0) (drop 0 l) ≡ trimmed l

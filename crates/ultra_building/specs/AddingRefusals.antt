@@ -26,7 +26,8 @@ use Rattle.refusals.specs.declared.Refusal.{Refusal}
 use Rattle.refusals.specs.declared.Answer.the-variants.{Done, Refused}
 use Rattle.ultra_acceptance.specs.Acceptance.{HoldsContext}
 use Rattle.ultra_acceptance.specs.Refusing.{NoneBreaks, Refuses}
-use Rattle.ultra_building.specs.Building.{appendCheck, addedMembers}
+use Rattle.ultra_appending.specs.Appending.{appendCheck}
+use Rattle.ultra_adding.specs.Adding.{addedMembers}
 
 -- ---- the table
 -- "occurred earlier": a type, among the attributes of a context

@@ -1,13 +1,11 @@
-// The six adds of records, numbers and bytes. A record that has arrays is taken apart, its text without trailing zeros, for the adds of
-// members, which are those of the calls toward C too.
+// The adds of records that have arrays. Such a record is taken apart, its text without trailing zeros, for the adds of members, which are
+// those of the calls toward C too.
 ghost use mathlib.Core.Path.{_≡_};
 ghost use Rattle.ultra_format.specs.Additions.{Addition};
-ghost use Rattle.ultra_building.specs.Building.{added};
+ghost use Rattle.ultra_adding.specs.Adding.{added};
 use crate::late_members;
-use crate::members;
-use crate::place::admit;
 use refusals::Answer;
-use ultra_format::FramebufferRecord;
+use ultra_adding::members;
 use ultra_format::KernelRecord;
 use ultra_format::ModuleRecord;
 use ultra_format::PlatformRecord;
@@ -60,20 +58,6 @@ pub fn add_kernel(buf: &mut [u8], given: KernelRecord) -> Answer
     )
 }
 
-// Adds a memory map: an address, a size and a type for each entry.
-pub fn add_map(buf: &mut [u8], numbers: &[u64]) -> Answer
-    ensures { λ r. ⌜ (r, now (buf .exit)) ≡ added (now (buf .entry)) (Addition.addMap (now (numbers .entry))) ⌝ }
-{
-    let number = ultra_arguments::map::check(numbers);
-    let size = ultra_writing::map::size(numbers);
-    let answer = admit(buf, 3, number, size);
-    let Answer::Done(used) = answer else {
-        return answer;
-    };
-    ultra_writing::map::write(&mut buf[used as usize..], numbers);
-    Answer::Done(used + size as u32)
-}
-
 // Adds a module.
 pub fn add_module(buf: &mut [u8], given: ModuleRecord) -> Answer
     ensures { λ r. ⌜ (r, now (buf .exit)) ≡ added (now (buf .entry)) (Addition.addModule given) ⌝ }
@@ -81,31 +65,4 @@ pub fn add_module(buf: &mut [u8], given: ModuleRecord) -> Answer
     let name = given.name;
     let length = ultra_arguments::texts::trimmed_length(&name);
     members::add_module(buf, given.kind, &name[0..length], given.address, given.size)
-}
-
-// Adds a command line: the text as it is, without a closing zero.
-pub fn add_command_line(buf: &mut [u8], text: &[u8]) -> Answer
-    ensures { λ r. ⌜ (r, now (buf .exit)) ≡ added (now (buf .entry)) (Addition.addCommandLine (now (text .entry))) ⌝ }
-{
-    let number = ultra_arguments::command_line::check(text);
-    let size = ultra_writing::command_line::size(text);
-    let answer = admit(buf, 5, number, size);
-    let Answer::Done(used) = answer else {
-        return answer;
-    };
-    ultra_writing::command_line::write(&mut buf[used as usize..], text);
-    Answer::Done(used + size as u32)
-}
-
-// Adds a framebuffer.
-pub fn add_framebuffer(buf: &mut [u8], given: FramebufferRecord) -> Answer
-    ensures { λ r. ⌜ (r, now (buf .exit)) ≡ added (now (buf .entry)) (Addition.addFramebuffer given) ⌝ }
-{
-    let number = ultra_arguments::framebuffer::check(given);
-    let answer = admit(buf, 6, number, 32);
-    let Answer::Done(used) = answer else {
-        return answer;
-    };
-    ultra_writing::framebuffer::write(&mut buf[used as usize..], given);
-    Answer::Done(used + 32)
 }

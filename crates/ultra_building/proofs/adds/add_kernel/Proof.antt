@@ -8,7 +8,7 @@ use Rattle.ultra_format.specs.Additions.{kernelOf, bodyGiven, guidsFormed}
 use mathlib.Core.Bool.{true}
 use mathlib.Core.List.{List}
 use Prim.Native.Nat.{ℕ}
-use Rattle.ultra_building.specs.Building.{addedMembers}
+use Rattle.ultra_adding.specs.Adding.{addedMembers}
 use Rattle.ultra_building.proofs.GivenRecords.{text-part}
 use borrow.Author.Needs.{needs}
 use Rattle.ultra_building.proofs.adds.add_kernel.Statement.{statement}
@@ -19,33 +19,6 @@ formed c =
     let d : length (c .args .given .«disk_guid») ≡ 16 = search needs in
     let p : length (c .args .given .«partition_guid») ≡ 16 = search needs in
     rw (d, p)
-
-slice-aggregate-trimmed-length : tie.Need-slice-aggregate-trimmed-length
-slice-aggregate-trimmed-length c = search needs
-
-trimmed-length-requires : tie.Need-trimmed-length-requires
-trimmed-length-requires c κs = search needs
-
-slice-aggregate-add-kernel : tie.Need-slice-aggregate-add-kernel
-slice-aggregate-add-kernel c = search needs
-
-slice-aggregate-add-kernel-2 : tie.Need-slice-aggregate-add-kernel-2
-slice-aggregate-add-kernel-2 c = search needs
-
-sub-add-kernel : tie.Need-sub-add-kernel
-sub-add-kernel c = search needs
-
-part-add-kernel-start : tie.Need-part-add-kernel-start
-part-add-kernel-start c = search needs
-
-part-add-kernel-end : tie.Need-part-add-kernel-end
-part-add-kernel-end c = search needs
-
-add-kernel-requires : tie.Need-add-kernel-requires
-add-kernel-requires c κs = search needs
-
-same-length : tie.Need-same-length
-same-length c = search needs
 
 returns : tie.Need-returns
 unfolding bodyGiven
@@ -62,13 +35,13 @@ pub add-kernel-spec : {M : Type 1} → statement M
 add-kernel-spec =
     tie.close
     (tie.spec
-    slice-aggregate-trimmed-length
-    trimmed-length-requires
-    slice-aggregate-add-kernel
-    slice-aggregate-add-kernel-2
-    sub-add-kernel
-    part-add-kernel-start
-    part-add-kernel-end
-    add-kernel-requires
-    same-length
+    (λ c. search needs)
+    (λ c κs. search needs)
+    (λ c. search needs)
+    (λ c. search needs)
+    (λ c. search needs)
+    (λ c. search needs)
+    (λ c. search needs)
+    (λ c κs. search needs)
+    (λ c. search needs)
     returns)

@@ -6,24 +6,15 @@ use Rattle.words.proofs.Comparisons.{failed, held}
 use Rattle.ultra_building.proofs.late_members.complete.Statement.{statement}
 use Rattle.ultra_building.proofs.late_members.complete.Tie as tie
 
-wide-present-requires : tie.Need-wide-present-requires
-wide-present-requires c κs = search needs
-
 returns : tie.Need-returns
 unfolding sizeSuits
 returns c = simp (failed (c .before .wide-present .ensures) (c .if1 .taken))
-
-narrow-present-requires : tie.Need-narrow-present-requires
-narrow-present-requires c κs = search needs
 
 returns-2 : tie.Need-returns-2
 unfolding sizeSuits
 returns-2 c =
     let d = c .before .before in
     simp (held (d .before .wide-present .ensures) (d .if1 .left), failed (c .before .narrow-present .ensures) (c .if2 .taken))
-
-wide-present-requires-2 : tie.Need-wide-present-requires-2
-wide-present-requires-2 c κs = search needs
 
 returns-3 : tie.Need-returns-3
 unfolding sizeSuits
@@ -32,9 +23,6 @@ returns-3 c =
     let d = e .before .before in
     simp
     (held (d .before .wide-present .ensures) (d .if1 .left), held (e .before .narrow-present .ensures) (e .if2 .left), failed (c .before .wide-present2 .ensures) (c .if3 .taken))
-
-wide-present-requires-3 : tie.Need-wide-present-requires-3
-wide-present-requires-3 c κs = search needs
 
 returns-4 : tie.Need-returns-4
 unfolding sizeSuits
@@ -50,11 +38,11 @@ pub complete-spec : {M : Type 1} → statement M
 complete-spec =
     tie.close
     (tie.spec
-    wide-present-requires
+    (λ c κs. search needs)
     returns
-    narrow-present-requires
+    (λ c κs. search needs)
     returns-2
-    wide-present-requires-2
+    (λ c κs. search needs)
     returns-3
-    wide-present-requires-3
+    (λ c κs. search needs)
     returns-4)
