@@ -45,7 +45,7 @@ module _ (b q : List ℕ) (t given size : ℕ) (a : Answer) (e : (a, q) ≡ admi
       go (Refused s) u w = let z : Refused r ≡ Refused s = ap (λ (x : Answer × List ℕ). x .0) w in (u ∙ sym z, ap (λ (x : Answer × List ℕ). x .1) w)
       go (Done m) u w = let z : Refused r ≡ Done m = ap (λ (x : Answer × List ℕ). x .0) w in absurd (let y : _≡_ {A = ℕ} 0 1 = cc in omega arith)
 
-pub length-counted : (b : List ℕ) → 8 ≤ length b → length (counted b) ≡ length b
+length-counted : (b : List ℕ) → 8 ≤ length b → length (counted b) ≡ length b
 unfolding counted
 length-counted b h = length-replaced b (littleEndian 4 (storedCount b + 1)) 4 4 refl h
 
