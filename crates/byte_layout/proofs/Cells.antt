@@ -36,6 +36,10 @@ index b o (byte m ∷ cs) h (suc i) n l e = let q : o + suc i ≡ o + 1 + i = om
 index b o (silent ∷ cs) h zero n l e = absurd (not-silent n e)
 index b o (silent ∷ cs) h (suc i) n l e = let q : o + suc i ≡ o + 1 + i = omega arith in rw q (index b (o + 1) cs h i n (le-of-suc-le-suc l) e)
 
+-- cells that lie at one place lie wherever the same bytes stand
+pub at-moved : (b d : List ℕ) (o p : ℕ) (cs : List Cell) → ((i : ℕ) → i < length cs → getD d (p + i) 0 ≡ getD b (o + i) 0) → At b o cs → At d p cs
+at-moved b d o p cs s h = along d p cs (λ i n k e. s i k ∙ index b o cs h i n k e)
+
 pub opens-at : (b : List ℕ) (cs : List Cell) → Opens b cs → At b 0 cs
 opens-at b cs h = along b 0 cs (λ i n l e. rw zero-add (h .1 i n l e))
 

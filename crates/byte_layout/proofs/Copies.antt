@@ -4,7 +4,7 @@ use Prim.Native.Nat.{ℕ, zero, suc, _+_, _-_, _≤_, _<_}
 use mathlib.Core.Path.{_≡_, refl, sym, ap, _∙_}
 use mathlib.Core.List.{List, [], _∷_, _++_, append-nil}
 use native.Mathlib.Omega.{arith}
-use native.Mathlib.Nat.{add-zero}
+use native.Mathlib.Nat.{not-suc-le-zero, le-of-suc-le-suc, add-zero}
 use native.Mathlib.Numerals.{add-one}
 use lib.ListN.{length, take, drop, getD, set, replicate, drop-of-length-le}
 use lib.Seq.{drop-cons, set-at, append-snoc}
@@ -21,6 +21,13 @@ pub length-stored : (b : List ℕ) (o n : ℕ) → length (bytesAt b o n) ≡ n
 unfolding bytesAt
 length-stored b o zero = refl
 length-stored b o (suc n) = ap suc (length-stored b (o + 1) n)
+
+-- byte i of the n
+pub bytes-at : (b : List ℕ) (o n i : ℕ) → i < n → getD (bytesAt b o n) i 0 ≡ getD b (o + i) 0
+unfolding bytesAt
+bytes-at b o zero i h = absurd (not-suc-le-zero h)
+bytes-at b o (suc n) zero h = rw add-zero
+bytes-at b o (suc n) (suc i) h = let q : o + suc i ≡ o + 1 + i = omega arith in rw q (bytes-at b (o + 1) n i (le-of-suc-le-suc h))
 
 -- one more byte is stored
 pub bytes-more : (b : List ℕ) (o n : ℕ) → bytesAt b o (n + 1) ≡ bytesAt b o n ++ (getD b (o + n) 0 ∷ [])

@@ -13,7 +13,7 @@ use Rattle.byte_layout.specs.Fields.{Cell, Field, bytes, silence, padded
 use Rattle.byte_layout.specs.Fields.{Field.number, Field.raw, Field.text, Field.padding}
 use Rattle.byte_layout.specs.Stored.{Bytes, bytesAt, upToZero, textAt}
 use Rattle.byte_layout.proofs.Cells.{At, at-front, at-append}
-use Rattle.byte_layout.proofs.Copies.{length-stored}
+use Rattle.byte_layout.proofs.Copies.{length-stored, bytes-at}
 use Rattle.byte_layout.proofs.Texts.{stops, goes-on}
 
 -- what a field says of the buffer that it lies in, at `p`
@@ -56,10 +56,7 @@ number-fits b y o zero = omega arith
 number-fits b y o (suc k) = let r = number-fits b y (o + 1) k in omega (arith, y o)
 
 raw-byte : (b : List ℕ) → Bytes b → (o k i : ℕ) → i < k → getD (bytesAt b o k) i 0 < 256
-unfolding bytesAt
-raw-byte b y o zero i h = absurd (not-suc-le-zero h)
-raw-byte b y o (suc k) zero h = y o
-raw-byte b y o (suc k) (suc i) h = raw-byte b y (o + 1) k i (le-of-suc-le-suc h)
+raw-byte b y o k i h = rw (bytes-at b o k i h) (y (o + i))
 
 text-fits : (b : List ℕ) → Bytes b → (o k : ℕ) → FieldFits (text k (textAt b o k))
 unfolding textAt
@@ -97,11 +94,11 @@ module _ (b : List ℕ) where
   to-raw o zero = tt
   to-raw o (suc k) = (refl, to-raw (o + 1) k)
 
-  at-silence : (o k : ℕ) → At b o (silence k)
+  pub at-silence : (o k : ℕ) → At b o (silence k)
   at-silence o zero = tt
   at-silence o (suc k) = at-silence (o + 1) k
 
-  from-text : (o k : ℕ) (l : List ℕ) → FieldFits (text k l) → At b o (textCells k l) → textAt b o k ≡ l
+  pub from-text : (o k : ℕ) (l : List ℕ) → FieldFits (text k l) → At b o (textCells k l) → textAt b o k ≡ l
   unfolding textAt
   from-text o zero [] r h = refl
   from-text o zero (x ∷ l) r h = absurd (omega (arith, r .0))
@@ -110,7 +107,7 @@ module _ (b : List ℕ) where
       goes-on (getD b o 0) _ (λ e. omega (arith, r .1 0 (omega arith), h .0))
       ∙ ap₂ (λ (y : ℕ) (m : List ℕ). y ∷ m) (h .0) (from-text (o + 1) k l (omega (arith, r .0), λ i s. r .1 (suc i) (omega arith)) (h .1))
 
-  to-text : (o k : ℕ) → At b o (textCells k (textAt b o k))
+  pub to-text : (o k : ℕ) → At b o (textCells k (textAt b o k))
   unfolding textAt
   to-text o zero = tt
   to-text o (suc k) = go (getD b o 0) refl (to-text (o + 1) k)
@@ -187,6 +184,11 @@ pub fits-front : (xs ys : List Field) → Fits (xs ++ ys) → Fits xs × Fits ys
 unfolding Fits
 fits-front [] ys r = (tt, r)
 fits-front (f ∷ xs) ys r = let t = fits-front xs ys (r .1) in ((r .0, t .0), t .1)
+
+pub fits-append : (xs ys : List Field) → Fits xs → Fits ys → Fits (xs ++ ys)
+unfolding Fits
+fits-append [] ys f g = g
+fits-append (x ∷ xs) ys f g = (f .0, fits-append xs ys (f .1) g)
 
 pub width-append : (xs ys : List Field) → width (xs ++ ys) ≡ width xs + width ys
 unfolding width

@@ -1,2 +1,4 @@
 pub mod Fields
 pub mod Stored
+pub mod Placed
+pub mod PlacedExample

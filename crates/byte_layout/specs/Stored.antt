@@ -26,3 +26,7 @@ textAt b o (suc k) = upToZero (getD b o 0) (textAt b (o + 1) k)
 -- l over the front of `out`; what is after it stays
 abbrev pub over : List ℕ → List ℕ → List ℕ
 over l out = l ++ drop (length l) out
+
+-- a text with its closing zero
+abbrev pub closed : List ℕ → List ℕ
+closed l = l ++ (0 ∷ [])

@@ -3,13 +3,13 @@
 use Prim.Native.Nat.{ℕ, zero, suc, _-_, _≤_, _<_, _%_}
 use mathlib.Core.Path.{_≡_, refl, _∙_}
 use mathlib.Core.Bool.{Bool, true, _&&_}
-use mathlib.Core.List.{List, [], _∷_, _++_}
+use mathlib.Core.List.{List, [], _∷_}
 use native.Mathlib.Omega.{arith}
 use native.Mathlib.Nat.{not-suc-le-zero, le-of-suc-le-suc}
 use lib.ListN.{length, getD}
 use lib.Dec.{ltb, eqb}
 use borrow.Author.Tests.{ltb-true, eqb-false, not-true}
-use Rattle.byte_layout.specs.Fields.{Field, FieldFits, Fits, width}
+use Rattle.byte_layout.specs.Fields.{FieldFits, Fits, width}
 use Rattle.byte_layout.specs.Fields.{Field.raw, Field.text, Field.padding}
 use Rattle.byte_layout.specs.Stored.{Bytes}
 use Rattle.ultra_format.specs.Layouts.{memberFields, depthFields, entriesFields, bodyFields, attributeFields}
@@ -29,13 +29,8 @@ use Rattle.ultra_adding.proofs.Adding.{given-holds}
 use Rattle.ultra_format.specs.Plain.{writtenSize}
 use Rattle.ultra_format.proofs.Attributes.{width-attribute}
 use Rattle.byte_layout.proofs.Cells.{length-filled}
-use Rattle.byte_layout.proofs.FieldLaws.{length-cells}
+use Rattle.byte_layout.proofs.FieldLaws.{length-cells, fits-append}
 use Rattle.demand_2.specs.Arguments.{WideTyped, NarrowTyped, ArrayTyped, PlatformTyped, NumbersTyped, AdditionTyped}
-
-pub fits-append : (xs ys : List Field) → Fits xs → Fits ys → Fits (xs ++ ys)
-unfolding Fits
-fits-append [] ys f g = g
-fits-append (x ∷ xs) ys f g = (f .0, fits-append xs ys (f .1) g)
 
 -- ---- texts
 -- a test that every byte passes says of it that it is no zero; that it is a byte is said by the test or the type

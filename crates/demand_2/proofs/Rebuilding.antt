@@ -20,6 +20,7 @@ use Rattle.ultra_format.specs.Plain.{writtenSize, Plain}
 use Rattle.ultra_format.specs.Decoding.{storedType, typesBefore}
 use Rattle.ultra_format.specs.Additions.{Addition, bodyGiven, formed, typeGiven, sizeGiven, attributeGiven, additionCheck}
 use Rattle.ultra_format.specs.Additions.{Addition.addCommandLine}
+use Rattle.ultra_format.proofs.Rows.{total-append}
 use Rattle.ultra_format.proofs.Attributes.{attribute, at, sized, width-layout, body-fits, Says, opens-says}
 use Rattle.ultra_places.proofs.PlaceLaws.{length-types}
 use Rattle.ultra_acceptance.proofs.Walked.{accepted}
@@ -33,7 +34,7 @@ use Rattle.demand_2.specs.CallsFromC.{after, replies}
 use Rattle.demand_2.specs.Arguments.{AdditionTyped, AllTyped}
 use Rattle.demand_2.specs.Model.{attributesGiven, contextGiven, typesAfter, refusalOf, giving, appended, listAfterAll}
 use Rattle.demand_2.specs.Demand2.{recordsBack, adds, AllSucceeded, rebuilding, Rebuilt}
-use Rattle.demand_2.proofs.Appending.{total-append, all-more, says-type}
+use Rattle.demand_2.proofs.Appending.{all-more, says-type}
 use Rattle.demand_2.proofs.Following.{Added, Keeps, length-given, given-append, types-after, begun-is, begin-follows, added-is, step-follows, same-room}
 use Rattle.demand_2.proofs.Records.{giving-body, giving-typed, giving-clear}
 use Rattle.demand_2.proofs.ReadingBack.{record-at}

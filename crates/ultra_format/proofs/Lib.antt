@@ -2,6 +2,7 @@ pub mod MapOrder
 pub mod Bodies
 pub mod Sizes
 pub mod Attributes
+pub mod Rows
 pub mod Decoded
 pub mod Given
 pub mod Witness

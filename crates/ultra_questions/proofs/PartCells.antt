@@ -5,25 +5,26 @@ use mathlib.Core.Path.{_≡_, refl, ap, ap₂, _∙_}
 use mathlib.Core.Bool.{true}
 use mathlib.Core.List.{List, [], _∷_, _++_, append-nil}
 use native.Mathlib.Omega.{arith}
-use native.Mathlib.Nat.{not-suc-le-zero, le-of-suc-le-suc, add-zero}
-use lib.ListN.{length, take}
+use native.Mathlib.Nat.{not-suc-le-zero, le-of-suc-le-suc}
+use lib.ListN.{length}
 use lib.Dec.{ltb}
 use borrow.Author.Tests.{ltb-true}
 use denote.Ref.{RefT}
 use Rattle.words.specs.Words.{littleEndian}
-use Rattle.byte_layout.specs.Fields.{Cell, cells, width, filled, bytes, textCells}
+use Rattle.byte_layout.specs.Fields.{Cell, cells, filled, bytes, textCells}
 use Rattle.byte_layout.specs.Fields.{Cell.byte, Cell.silent}
 use Rattle.byte_layout.specs.Stored.{bytesAt}
 use Rattle.byte_layout.proofs.Cells.{At, opens-at, at-front}
-use Rattle.byte_layout.proofs.FieldLaws.{length-cells, cells-append}
-use Rattle.ultra_format.specs.Contexts.{Entry, Body, typeOf, Attribute, Context, count, sizeAt, bodyAt, total, startIn}
+use Rattle.byte_layout.proofs.FieldLaws.{length-cells}
+use Rattle.ultra_format.specs.Contexts.{Entry, Body, typeOf, Context, count, sizeAt, bodyAt, startIn}
 use Rattle.ultra_format.specs.Contexts.{Body.platform, Body.kernel, Body.memoryMap, Body.moduleInfo, Body.commandLine, Body.framebuffer, Body.other}
-use Rattle.ultra_format.specs.Layouts.{bodyFields, entriesFields, attributeFields, attributesFields, layout, Opens}
+use Rattle.ultra_format.specs.Layouts.{bodyFields, entriesFields, attributeFields, layout, Opens}
 use Rattle.ultra_format.specs.Members.{texts, asciiText, every, ascii}
 use Rattle.ultra_format.specs.Rules.{Meets}
 use Rattle.ultra_format.proofs.Bodies.{width-entries}
 use Rattle.refusals.proofs.Chains.{both-hold}
-use Rattle.ultra_format.proofs.Attributes.{at, Sized, sized}
+use Rattle.ultra_format.proofs.Attributes.{sized}
+use Rattle.ultra_format.proofs.Rows.{each-at}
 use Rattle.ultra_questions.specs.declared.part.Part.{Part}
 use Rattle.ultra_questions.specs.Parts.{noPart, PartOf, bodyPart, partBytes}
 
@@ -47,19 +48,7 @@ solid-entries [] = tt
 solid-entries (e ∷ es) = solid-entries es
 
 module _ (b : List ℕ) where
-  split : (a : Attribute) (l : List Attribute) (o : ℕ) → width (attributeFields a) ≡ a .size → At b o (cells (attributeFields a) ++ cells (attributesFields l))
-      → At b o (cells (attributeFields a)) × At b (o + a .size) (cells (attributesFields l))
-  split a l o z h = at-front b o (o + a .size) (cells (attributeFields a)) (cells (attributesFields l)) (omega (arith, length-cells (attributeFields a), z)) h
-
-  -- ---- attribute i of a list whose cells lie in the buffer, and its body
-  attribute-at : (l : List Attribute) (o : ℕ) → Sized l → At b o (cells (attributesFields l)) → (i : ℕ) → i < length l → At b (o + total (take i l)) (cells (attributeFields (at l i)))
-  unfolding attributesFields total
-  attribute-at [] o z h i k = absurd (not-suc-le-zero k)
-  attribute-at (a ∷ l) o z h zero k = rw add-zero (split a l o (z 0 k) (rw cells-append at h) .0)
-  attribute-at (a ∷ l) o z h (suc i) k =
-      let q : o + (a .size + total (take i l)) ≡ o + a .size + total (take i l) = omega arith in
-      rw q (attribute-at l (o + a .size) (λ n m. z (suc n) (omega arith)) (split a l o (z 0 (omega arith)) (rw cells-append at h) .1) i (le-of-suc-le-suc k))
-
+  -- ---- the body of an attribute whose cells lie in the buffer
   body-at : (s o : ℕ) (x : Body) → At b o (cells (attributeFields (record { size = s; body = x }))) → At b (o + 8) (cells (bodyFields s x))
   unfolding cells
   body-at s o x h =
@@ -101,4 +90,4 @@ module _ (b : List ℕ) where
   part-bytes fewest room c m o i k =
       let h = opens-at b (cells (layout c)) o in
       body-bytes (sizeAt c i) (startIn (c .attributes) i) (bodyAt c i) (m .each i k .textsHold)
-      (body-at (sizeAt c i) (startIn (c .attributes) i) (bodyAt c i) (attribute-at (c .attributes) 8 (sized m) (h .1 .1 .1 .1 .1 .1) i k))
+      (body-at (sizeAt c i) (startIn (c .attributes) i) (bodyAt c i) (each-at b (c .attributes) 8 (sized m) (h .1 .1 .1 .1 .1 .1) i k))

@@ -1,0 +1,5 @@
+pub mod Opening
+pub mod Order
+pub mod Splicing
+pub mod Edits
+pub mod Examples
