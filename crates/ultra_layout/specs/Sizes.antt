@@ -1,9 +1,13 @@
--- The least sizes of document 01's table, for contracts: how many bytes an attribute of each type, or a map's entry, has at least.
+-- The sizes of document 01's table, for contracts: how many bytes an attribute of each type has at least, and a map's entry.
 -- Assumes nothing.
 use Prim.Native.Nat.{ℕ}
 
 abbrev pub platformSize : ℕ
 platformSize = 56
+
+-- with every member
+abbrev pub platformFullSize : ℕ
+platformFullSize = 88
 
 abbrev pub kernelSize : ℕ
 kernelSize = 336

@@ -63,7 +63,7 @@ fn guid(bytes: &[u8], at: usize) -> [u8; 16]
     ensures { λ r. ⌜ r ≡ bytesAt (now (bytes .entry)) at 16 ⌝ }
 {
     let mut guid = [0u8; 16];
-    byte_layout::copy(bytes, at, 16, &mut guid);
+    byte_layout::copy(bytes, at, GUID_WIDTH, &mut guid);
     guid
 }
 

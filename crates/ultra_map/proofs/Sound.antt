@@ -15,20 +15,17 @@ use Rattle.ultra_format.specs.Decoding.{entryAt, entriesAt}
 use Rattle.refusals.proofs.Chains.{both-hold}
 use Rattle.ultra_rules.proofs.Judged.{judged}
 use Rattle.ultra_map.specs.Sound.{endsByNext, sound}
-use Rattle.ultra_map.proofs.Entries.{entries-suit}
+use Rattle.ultra_map.proofs.Entries.{entries-suit, entries-none, entries-next}
 
 module _ (b : List ℕ) (o : ℕ) where
   pub sound-none : (n : ℕ) → n ≡ 0 → sound (entriesAt b o n) ≡ true
-  unfolding sound entriesAt
-  sound-none zero h = refl
-  sound-none (suc n) h = absurd (omega arith)
+  unfolding sound
+  sound-none n h = rw (entries-none b o n (omega arith))
 
   -- the last entry
   sound-last : (n : ℕ) → n ≤ 1 → (n ≡ 0 → ⊥) → sound (entriesAt b o n) ≡ (entryTyped (entryAt b o) && entryFits (entryAt b o))
-  unfolding sound entriesAt
-  sound-last zero h m = absurd (m refl)
-  sound-last (suc zero) h m = refl
-  sound-last (suc (suc n)) h m = absurd (omega arith)
+  unfolding sound
+  sound-last n h m = rw (entries-next b o n (omega arith), entries-none b (o + 24) (n - 1) (omega arith))
 
   pub last-untyped : (n : ℕ) → n ≤ 1 → (n ≡ 0 → ⊥) → entryTyped (entryAt b o) ≡ false → sound (entriesAt b o n) ≡ false
   last-untyped n h m e = rw (sound-last n h m, e)
@@ -37,10 +34,8 @@ module _ (b : List ℕ) (o : ℕ) where
   last-fits n h m e = rw (sound-last n h m, e)
 
   sound-next : (n : ℕ) → 1 < n → sound (entriesAt b o n) ≡ (entryTyped (entryAt b o) && endsByNext b o && sound (entriesAt b (o + 24) (n - 1)))
-  unfolding sound entriesAt
-  sound-next zero h = absurd (omega arith)
-  sound-next (suc zero) h = absurd (omega arith)
-  sound-next (suc (suc n)) h = let q : suc (suc n) - 1 ≡ suc n = omega arith in rw q
+  unfolding sound
+  sound-next n h = rw (entries-next b o n (omega arith), entries-next b (o + 24) (n - 1) (omega arith))
 
   pub sound-untyped : (n : ℕ) → 1 < n → entryTyped (entryAt b o) ≡ false → sound (entriesAt b o n) ≡ false
   sound-untyped n h e = rw (sound-next n h, e)

@@ -13,6 +13,7 @@ pub fn check(bytes: &[u8], at: usize, size: u32) -> u16
     if size < command_line::LEAST_SIZE {
         return refusals::FORM;
     }
-    let text = ultra_rules::texts::ascii(bytes, at + command_line::TEXT, (size - 8) as usize);
+    let length = size as usize - command_line::TEXT;
+    let text = ultra_rules::texts::ascii(bytes, at + command_line::TEXT, length);
     ultra_rules::first_broken(true, true, text, true, true)
 }

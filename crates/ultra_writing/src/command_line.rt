@@ -4,12 +4,14 @@ ghost use Prim.Native.Nat.{_≤_, _<_};
 ghost use lib.ListN.{length};
 ghost use Rattle.byte_layout.specs.Stored.{over};
 ghost use Rattle.ultra_format.specs.Additions.{Addition, sizeGiven, bytesGiven};
+use ultra_layout::command_line;
+use ultra_layout::types;
 
 // "A text of k bytes as command line is written in 8 + (k + 1 rounded up to a multiple of 8) bytes."
 pub fn size(text: &[u8]) -> usize
     ensures { λ r. ⌜ r ≡ sizeGiven (Addition.addCommandLine (now (text .entry))) ⌝ }
 {
-    8 + (text.len() + 1 + 7) / 8 * 8
+    command_line::TEXT + (text.len() + 1 + 7) / 8 * 8
 }
 
 pub fn write(part: &mut [u8], text: &[u8])
@@ -18,6 +20,6 @@ pub fn write(part: &mut [u8], text: &[u8])
     ensures { λ _. ⌜ now (part .exit) ≡ over (bytesGiven (Addition.addCommandLine (now (text .entry)))) (now (part .entry)) ⌝ }
 {
     let whole = size(text);
-    crate::header(part, 5, whole as u32);
-    crate::store_padded(part, 8, whole - 8, text);
+    crate::header(part, types::COMMAND_LINE, whole as u32);
+    crate::store_padded(part, command_line::TEXT, whole - command_line::TEXT, text);
 }

@@ -5,18 +5,21 @@ ghost use lib.ListN.{length};
 ghost use Rattle.byte_layout.specs.Fields.{cells, filled};
 ghost use Rattle.byte_layout.specs.Stored.{over};
 ghost use Rattle.ultra_format.specs.Additions.{kernelOf, newBytes};
+ghost use Rattle.ultra_layout.specs.Sizes.{kernelSize};
 ghost use Rattle.ultra_writing.specs.Leading.{kernelLeading};
+use ultra_layout::kernel;
+use ultra_layout::types;
 
 // The header and the 64-bit members.
 fn leading(part: &mut [u8], physical_base: u64, virtual_base: u64, size: u64, partition_type: u64)
     requires { ⌜ 40 ≤ length (now part) ⌝ }
     ensures { λ _. ⌜ now (part .exit) ≡ over (filled (cells (kernelLeading «physical_base» «virtual_base» size «partition_type»))) (now (part .entry)) ⌝ }
 {
-    crate::header(part, 2, 336);
-    words::store_u64(part, 8, physical_base);
-    words::store_u64(part, 16, virtual_base);
-    words::store_u64(part, 24, size);
-    words::store_u64(part, 32, partition_type);
+    crate::header(part, types::KERNEL, kernel::LEAST_SIZE);
+    words::store_u64(part, kernel::PHYSICAL_BASE, physical_base);
+    words::store_u64(part, kernel::VIRTUAL_BASE, virtual_base);
+    words::store_u64(part, kernel::SIZE, size);
+    words::store_u64(part, kernel::PARTITION_TYPE, partition_type);
 }
 
 pub fn write(
@@ -31,13 +34,18 @@ pub fn write(
     partition_index: u32,
     path: &[u8],
 )
-    requires { ⌜ (336 ≤ length (now part)) × (length (now «disk_guid») ≡ 16) × (length (now «partition_guid») ≡ 16) × (length (now path) ≤ 256) ⌝ }
+    requires { ⌜ (kernelSize ≤ length (now part)) × (length (now «disk_guid») ≡ 16) × (length (now «partition_guid») ≡ 16) × (length (now path) ≤ 256) ⌝ }
     ensures { λ _. ⌜ now (part .exit) ≡ over (newBytes (kernelOf «physical_base» «virtual_base» size «partition_type» (now («disk_guid» .entry)) (now («partition_guid» .entry)) «disk_index» «partition_index» (now (path .entry)))) (now (part .entry)) ⌝ }
 {
     leading(part, physical_base, virtual_base, size, partition_type);
-    crate::store_padded(part, 40, 16, disk_guid);
-    crate::store_padded(part, 56, 16, partition_guid);
-    words::store_u32(part, 72, disk_index);
-    words::store_u32(part, 76, partition_index);
-    crate::store_padded(part, 80, 256, path);
+    crate::store_padded(part, kernel::DISK_GUID, kernel::GUID_WIDTH, disk_guid);
+    crate::store_padded(
+        part,
+        kernel::PARTITION_GUID,
+        kernel::GUID_WIDTH,
+        partition_guid,
+    );
+    words::store_u32(part, kernel::DISK_INDEX, disk_index);
+    words::store_u32(part, kernel::PARTITION_INDEX, partition_index);
+    crate::store_padded(part, kernel::PATH, kernel::PATH_WIDTH, path);
 }

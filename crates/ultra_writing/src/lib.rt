@@ -22,7 +22,7 @@ fn header(part: &mut [u8], kind: u32, size: u32)
     ensures { λ _. ⌜ now (part .exit) ≡ over (filled (cells (headerFields kind size))) (now (part .entry)) ⌝ }
 {
     words::store_u32(part, 0, kind);
-    words::store_u32(part, 4, size);
+    words::store_u32(part, ultra_layout::attribute::SIZE, size);
 }
 
 // Bytes in their field of `width` bytes from `at` on, with zeros after them.

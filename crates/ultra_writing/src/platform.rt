@@ -5,19 +5,22 @@ ghost use lib.ListN.{length};
 ghost use Rattle.byte_layout.specs.Fields.{cells, filled};
 ghost use Rattle.byte_layout.specs.Stored.{over};
 ghost use Rattle.ultra_format.specs.Additions.{platformOf, newBytes};
+ghost use Rattle.ultra_layout.specs.Sizes.{platformSize, platformFullSize};
 ghost use Rattle.ultra_writing.specs.Leading.{platformLeading};
+use ultra_layout::platform;
+use ultra_layout::types;
 
 // The header and the members that every platform has.
 fn leading(part: &mut [u8], kind: u32, loader_major: u16, loader_minor: u16, name: &[u8], rsdp: u64)
-    requires { ⌜ (56 ≤ length (now part)) × (length (now name) ≤ 32) ⌝ }
+    requires { ⌜ (platformSize ≤ length (now part)) × (length (now name) ≤ 32) ⌝ }
     ensures { λ _. ⌜ now (part .exit) ≡ over (filled (cells (platformLeading kind «loader_major» «loader_minor» (now (name .entry)) rsdp))) (now (part .entry)) ⌝ }
 {
-    crate::header(part, 1, 88);
-    words::store_u32(part, 8, kind);
-    words::store_u16(part, 12, loader_major);
-    words::store_u16(part, 14, loader_minor);
-    crate::store_padded(part, 16, 32, name);
-    words::store_u64(part, 48, rsdp);
+    crate::header(part, types::PLATFORM, platform::FULL_SIZE);
+    words::store_u32(part, platform::KIND, kind);
+    words::store_u16(part, platform::LOADER_MAJOR, loader_major);
+    words::store_u16(part, platform::LOADER_MINOR, loader_minor);
+    crate::store_padded(part, platform::NAME, platform::NAME_WIDTH, name);
+    words::store_u64(part, platform::RSDP, rsdp);
 }
 
 pub fn write(
@@ -32,13 +35,13 @@ pub fn write(
     dtb: u64,
     smbios: u64,
 )
-    requires { ⌜ (88 ≤ length (now part)) × (length (now name) ≤ 32) ⌝ }
+    requires { ⌜ (platformFullSize ≤ length (now part)) × (length (now name) ≤ 32) ⌝ }
     ensures { λ _. ⌜ now (part .exit) ≡ over (newBytes (platformOf kind «loader_major» «loader_minor» (now (name .entry)) rsdp «higher_half_base» depth dtb smbios)) (now (part .entry)) ⌝ }
 {
     leading(part, kind, loader_major, loader_minor, name, rsdp);
-    words::store_u64(part, 56, higher_half_base);
-    part[64] = depth;
-    byte_layout::clear(part, 65, 7);
-    words::store_u64(part, 72, dtb);
-    words::store_u64(part, 80, smbios);
+    words::store_u64(part, platform::HIGHER_HALF_BASE, higher_half_base);
+    part[platform::DEPTH] = depth;
+    byte_layout::clear(part, platform::RESERVED, platform::RESERVED_WIDTH);
+    words::store_u64(part, platform::DTB, dtb);
+    words::store_u64(part, platform::SMBIOS, smbios);
 }

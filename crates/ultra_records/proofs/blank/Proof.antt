@@ -4,18 +4,6 @@ use borrow.Author.Needs.{needs}
 use Rattle.ultra_records.proofs.blank.Statement.{statement}
 use Rattle.ultra_records.proofs.blank.Tie as tie
 
-blank-requires : tie.Need-blank-requires
-blank-requires c κs = search needs
-
-blank-requires-2 : tie.Need-blank-requires-2
-blank-requires-2 c κs = search needs
-
-blank-requires-3 : tie.Need-blank-requires-3
-blank-requires-3 c κs = search needs
-
-blank-requires-4 : tie.Need-blank-requires-4
-blank-requires-4 c κs = search needs
-
 returns : tie.Need-returns
 returns c =
     λ i. record {
@@ -27,4 +15,10 @@ returns c =
 
 pub blank-spec : {M : Type 1} → statement M
 blank-spec =
-    tie.close (tie.spec blank-requires blank-requires-2 blank-requires-3 blank-requires-4 returns)
+    tie.close
+    (tie.spec
+    (λ c κs. search needs)
+    (λ c κs. search needs)
+    (λ c κs. search needs)
+    (λ c κs. search needs)
+    returns)

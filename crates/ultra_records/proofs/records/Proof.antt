@@ -10,9 +10,6 @@ use borrow.Author.Needs.{needs}
 use Rattle.ultra_records.proofs.records.Statement.{statement}
 use Rattle.ultra_records.proofs.records.Tie as tie
 
-blank-requires : tie.Need-blank-requires
-blank-requires c κs = search needs
-
 read-requires : tie.Need-read-requires
 read-requires c κs =
     let s = c .before .before .before .args in
@@ -75,7 +72,7 @@ pub records-spec : {M : Type 1} → statement M
 records-spec =
     tie.close
     (tie.spec
-    blank-requires
+    (λ c κs. search needs)
     read-requires
     returns
     read-requires-2

@@ -6,15 +6,6 @@ use borrow.Author.Needs.{needs}
 use Rattle.ultra_writing.proofs.header.Statement.{statement}
 use Rattle.ultra_writing.proofs.header.Tie as tie
 
-store-u32-requires : tie.Need-store-u32-requires
-store-u32-requires c κs = search needs
-
-store-u32-requires-2 : tie.Need-store-u32-requires-2
-store-u32-requires-2 c κs = search needs
-
-same-length : tie.Need-same-length
-same-length c = search needs
-
 returns : tie.Need-returns
 returns c =
     let p2 = c .before .before in
@@ -23,4 +14,10 @@ returns c =
     next (number 4 (a .size)) (next (number 4 (a .kind)) (nothing (a .part .now)) (p1 .store-u32 .ensures)) (p2 .store-u322 .ensures) .front
 
 pub header-spec : {M : Type 1} → statement M
-header-spec = tie.close (tie.spec store-u32-requires store-u32-requires-2 same-length returns)
+header-spec =
+    tie.close
+    (tie.spec
+    (λ c κs. search needs)
+    (λ c κs. search needs)
+    (λ c. search needs)
+    returns)

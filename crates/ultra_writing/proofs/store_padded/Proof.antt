@@ -8,21 +8,6 @@ use borrow.Author.Needs.{needs}
 use Rattle.ultra_writing.proofs.store_padded.Statement.{statement}
 use Rattle.ultra_writing.proofs.store_padded.Tie as tie
 
-store-requires : tie.Need-store-requires
-store-requires c κs = search needs
-
-add-clear : tie.Need-add-clear
-add-clear c = search needs
-
-sub-clear : tie.Need-sub-clear
-sub-clear c = search needs
-
-clear-requires : tie.Need-clear-requires
-clear-requires c κs = search needs
-
-same-length : tie.Need-same-length
-same-length c = search needs
-
 returns : tie.Need-returns
 returns c =
     let p1 = c .before .before in
@@ -33,4 +18,11 @@ returns c =
 
 pub store-padded-spec : {M : Type 1} → statement M
 store-padded-spec =
-    tie.close (tie.spec store-requires add-clear sub-clear clear-requires same-length returns)
+    tie.close
+    (tie.spec
+    (λ c κs. search needs)
+    (λ c. search needs)
+    (λ c. search needs)
+    (λ c κs. search needs)
+    (λ c. search needs)
+    returns)

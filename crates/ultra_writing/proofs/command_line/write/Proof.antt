@@ -12,12 +12,6 @@ use borrow.Author.Needs.{needs}
 use Rattle.ultra_writing.proofs.command_line.write.Statement.{statement}
 use Rattle.ultra_writing.proofs.command_line.write.Tie as tie
 
-size-requires : tie.Need-size-requires
-size-requires c κs = search needs
-
-cast-header : tie.Need-cast-header
-cast-header c = search needs
-
 header-requires : tie.Need-header-requires
 header-requires c κs = omega (arith, line-size (c .before .before .before .before .args .text .now))
 
@@ -28,9 +22,6 @@ store-padded-requires : tie.Need-store-padded-requires
 store-padded-requires c κs =
     let z = line-size (c .before .before .before .before .before .before .before .before .args .text .now) in
     (omega (arith, z), omega (arith, z))
-
-same-length : tie.Need-same-length
-same-length c = search needs
 
 returns : tie.Need-returns
 unfolding bodyGiven writtenSize width
@@ -46,10 +37,10 @@ pub write-spec : {M : Type 1} → statement M
 write-spec =
     tie.close
     (tie.spec
-    size-requires
-    cast-header
+    (λ c κs. search needs)
+    (λ c. search needs)
     header-requires
     sub-store-padded
     store-padded-requires
-    same-length
+    (λ c. search needs)
     returns)

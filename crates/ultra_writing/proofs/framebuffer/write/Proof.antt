@@ -9,30 +9,6 @@ use Rattle.ultra_writing.specs.Leading.{headerFields}
 use Rattle.ultra_writing.proofs.framebuffer.write.Statement.{statement}
 use Rattle.ultra_writing.proofs.framebuffer.write.Tie as tie
 
-header-requires : tie.Need-header-requires
-header-requires c κs = search needs
-
-store-u32-requires : tie.Need-store-u32-requires
-store-u32-requires c κs = search needs
-
-store-u32-requires-2 : tie.Need-store-u32-requires-2
-store-u32-requires-2 c κs = search needs
-
-store-u32-requires-3 : tie.Need-store-u32-requires-3
-store-u32-requires-3 c κs = search needs
-
-store-u16-requires : tie.Need-store-u16-requires
-store-u16-requires c κs = search needs
-
-store-u16-requires-2 : tie.Need-store-u16-requires-2
-store-u16-requires-2 c κs = search needs
-
-store-u64-requires : tie.Need-store-u64-requires
-store-u64-requires c κs = search needs
-
-same-length : tie.Need-same-length
-same-length c = search needs
-
 returns : tie.Need-returns
 unfolding bodyGiven writtenSize width
 returns c =
@@ -57,12 +33,12 @@ pub write-spec : {M : Type 1} → statement M
 write-spec =
     tie.close
     (tie.spec
-    header-requires
-    store-u32-requires
-    store-u32-requires-2
-    store-u32-requires-3
-    store-u16-requires
-    store-u16-requires-2
-    store-u64-requires
-    same-length
+    (λ c κs. search needs)
+    (λ c κs. search needs)
+    (λ c κs. search needs)
+    (λ c κs. search needs)
+    (λ c κs. search needs)
+    (λ c κs. search needs)
+    (λ c κs. search needs)
+    (λ c. search needs)
     returns)

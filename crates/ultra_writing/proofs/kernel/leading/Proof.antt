@@ -7,24 +7,6 @@ use borrow.Author.Needs.{needs}
 use Rattle.ultra_writing.proofs.kernel.leading.Statement.{statement}
 use Rattle.ultra_writing.proofs.kernel.leading.Tie as tie
 
-header-requires : tie.Need-header-requires
-header-requires c κs = search needs
-
-store-u64-requires : tie.Need-store-u64-requires
-store-u64-requires c κs = search needs
-
-store-u64-requires-2 : tie.Need-store-u64-requires-2
-store-u64-requires-2 c κs = search needs
-
-store-u64-requires-3 : tie.Need-store-u64-requires-3
-store-u64-requires-3 c κs = search needs
-
-store-u64-requires-4 : tie.Need-store-u64-requires-4
-store-u64-requires-4 c κs = search needs
-
-same-length : tie.Need-same-length
-same-length c = search needs
-
 returns : tie.Need-returns
 unfolding width
 returns c =
@@ -44,10 +26,10 @@ pub leading-spec : {M : Type 1} → statement M
 leading-spec =
     tie.close
     (tie.spec
-    header-requires
-    store-u64-requires
-    store-u64-requires-2
-    store-u64-requires-3
-    store-u64-requires-4
-    same-length
+    (λ c κs. search needs)
+    (λ c κs. search needs)
+    (λ c κs. search needs)
+    (λ c κs. search needs)
+    (λ c κs. search needs)
+    (λ c. search needs)
     returns)

@@ -6,14 +6,13 @@ use Rattle.ultra_writing.proofs.Entries.{map-size}
 use Rattle.ultra_writing.proofs.map.size.Statement.{statement}
 use Rattle.ultra_writing.proofs.map.size.Tie as tie
 
-mul-result : tie.Need-mul-result
-mul-result c = search needs
-
-add-result : tie.Need-add-result
-add-result c = search needs
-
 returns : tie.Need-returns
 returns c = sym (map-size (c .args .numbers .now))
 
 pub size-spec : {M : Type 1} → statement M
-size-spec = tie.close (tie.spec mul-result add-result returns)
+size-spec =
+    tie.close
+    (tie.spec
+    (λ c. search needs)
+    (λ c. search needs)
+    returns)

@@ -24,38 +24,14 @@ Inv-loop part₀ numbers whole i₀ part i =
 abbrev μ-loop : tie.MeasureT-loop
 μ-loop part₀ numbers whole i₀ part i = length numbers - i
 
-size-requires : tie.Need-size-requires Inv-loop μ-loop
-size-requires c κs = search needs
-
-cast-header : tie.Need-cast-header Inv-loop μ-loop
-cast-header c = search needs
-
 header-requires : tie.Need-header-requires Inv-loop μ-loop
 header-requires c κs = omega (arith, map-size (c .before .before .before .before .args .numbers .now))
 
 loop-holds : tie.Need-loop-holds Inv-loop μ-loop
 loop-holds c = (search needs, refl, λ e h. h)
 
-mul-store-u64 : tie.Need-mul-store-u64 Inv-loop μ-loop
-mul-store-u64 c = search needs
-
-add-store-u64 : tie.Need-add-store-u64 Inv-loop μ-loop
-add-store-u64 c = search needs
-
-mul-store-u64-2 : tie.Need-mul-store-u64-2 Inv-loop μ-loop
-mul-store-u64-2 c = search needs
-
-shared-slice-read-store-u64 : tie.Need-shared-slice-read-store-u64 Inv-loop μ-loop
-shared-slice-read-store-u64 c = search needs
-
 store-u64-requires : tie.Need-store-u64-requires Inv-loop μ-loop
 store-u64-requires c κs = omega (arith, map-size (c .before .before .before .before .before .before .before .before .before .before .before .args .numbers .now))
-
-add-i : tie.Need-add-i Inv-loop μ-loop
-add-i c = search needs
-
-loop-less : tie.Need-loop-less Inv-loop μ-loop
-loop-less c = search needs
 
 loop-again : tie.Need-loop-again Inv-loop μ-loop
 loop-again c =
@@ -66,9 +42,6 @@ loop-again c =
     let ns = z .before .before .before .args .numbers .now in
     let hs = number 4 3 ∷ number 4 (z .size .result) ∷ [] in
     (omega arith, search needs, λ e h. number-more hs ns (l .loop .i) (t .loop-test .taken) (l .loop .inv .2 e h) (p .store-u64 .ensures))
-
-same-length : tie.Need-same-length Inv-loop μ-loop
-same-length c = search needs
 
 returns : tie.Need-returns Inv-loop μ-loop
 unfolding bodyGiven writtenSize width
@@ -89,17 +62,17 @@ write-spec =
     (tie.spec
     Inv-loop
     μ-loop
-    size-requires
-    cast-header
+    (λ c κs. search needs)
+    (λ c. search needs)
     header-requires
     loop-holds
-    mul-store-u64
-    add-store-u64
-    mul-store-u64-2
-    shared-slice-read-store-u64
+    (λ c. search needs)
+    (λ c. search needs)
+    (λ c. search needs)
+    (λ c. search needs)
     store-u64-requires
-    add-i
-    loop-less
+    (λ c. search needs)
+    (λ c. search needs)
     loop-again
-    same-length
+    (λ c. search needs)
     returns)

@@ -11,21 +11,6 @@ use borrow.Author.Needs.{needs}
 use Rattle.ultra_writing.proofs.map.write_bytes.Statement.{statement}
 use Rattle.ultra_writing.proofs.map.write_bytes.Tie as tie
 
-add-header : tie.Need-add-header
-add-header c = search needs
-
-cast-header : tie.Need-cast-header
-cast-header c = search needs
-
-header-requires : tie.Need-header-requires
-header-requires c κs = search needs
-
-store-requires : tie.Need-store-requires
-store-requires c κs = search needs
-
-same-length : tie.Need-same-length
-same-length c = search needs
-
 returns : tie.Need-returns
 unfolding width
 returns c =
@@ -38,4 +23,11 @@ returns c =
 
 pub write-bytes-spec : {M : Type 1} → statement M
 write-bytes-spec =
-    tie.close (tie.spec add-header cast-header header-requires store-requires same-length returns)
+    tie.close
+    (tie.spec
+    (λ c. search needs)
+    (λ c. search needs)
+    (λ c κs. search needs)
+    (λ c κs. search needs)
+    (λ c. search needs)
+    returns)

@@ -7,27 +7,6 @@ use borrow.Author.Needs.{needs}
 use Rattle.ultra_writing.proofs.platform.leading.Statement.{statement}
 use Rattle.ultra_writing.proofs.platform.leading.Tie as tie
 
-header-requires : tie.Need-header-requires
-header-requires c κs = search needs
-
-store-u32-requires : tie.Need-store-u32-requires
-store-u32-requires c κs = search needs
-
-store-u16-requires : tie.Need-store-u16-requires
-store-u16-requires c κs = search needs
-
-store-u16-requires-2 : tie.Need-store-u16-requires-2
-store-u16-requires-2 c κs = search needs
-
-store-padded-requires : tie.Need-store-padded-requires
-store-padded-requires c κs = search needs
-
-store-u64-requires : tie.Need-store-u64-requires
-store-u64-requires c κs = search needs
-
-same-length : tie.Need-same-length
-same-length c = search needs
-
 returns : tie.Need-returns
 unfolding width
 returns c =
@@ -49,11 +28,11 @@ pub leading-spec : {M : Type 1} → statement M
 leading-spec =
     tie.close
     (tie.spec
-    header-requires
-    store-u32-requires
-    store-u16-requires
-    store-u16-requires-2
-    store-padded-requires
-    store-u64-requires
-    same-length
+    (λ c κs. search needs)
+    (λ c κs. search needs)
+    (λ c κs. search needs)
+    (λ c κs. search needs)
+    (λ c κs. search needs)
+    (λ c κs. search needs)
+    (λ c. search needs)
     returns)

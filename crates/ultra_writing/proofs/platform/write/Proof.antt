@@ -12,15 +12,6 @@ use borrow.Author.Needs.{needs}
 use Rattle.ultra_writing.proofs.platform.write.Statement.{statement}
 use Rattle.ultra_writing.proofs.platform.write.Tie as tie
 
-leading-requires : tie.Need-leading-requires
-leading-requires c κs = search needs
-
-store-u64-requires : tie.Need-store-u64-requires
-store-u64-requires c κs = search needs
-
-slice-write-part : tie.Need-slice-write-part
-slice-write-part c = search needs
-
 clear-requires : tie.Need-clear-requires
 clear-requires c κs = simp length-set (omega arith)
 
@@ -58,9 +49,9 @@ pub write-spec : {M : Type 1} → statement M
 write-spec =
     tie.close
     (tie.spec
-    leading-requires
-    store-u64-requires
-    slice-write-part
+    (λ c κs. search needs)
+    (λ c κs. search needs)
+    (λ c. search needs)
     clear-requires
     store-u64-requires-2
     store-u64-requires-3
