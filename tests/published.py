@@ -235,11 +235,14 @@ def clauses_of(text, at):
 
 
 def passed_on(call):
-    """Whether the crate passes the function of that file on under the call's path."""
+    """Whether the crate passes the function of that file on under the call's path, or another crate passes it on from there."""
     *owners, name = call.path.split("::")
     crate, module = call.file.parents[1].name, call.file.stem
     if owners and owners[0][0].isupper():
         owners, name = [crate], owners[0]
+    if len(owners) == 1 and owners[0] != crate:
+        passes = read(call.file.parents[2] / owners[0] / "src/lib.rt").split("\n")
+        return f"pub use {crate}::{name};" in passes and passed_on(call._replace(path=f"{crate}::{name}"))
     if not owners or (owners, module) == ([crate], "lib"):
         return True
     line = {(crate,): f"pub use {module}::{name};", (crate, module): f"pub mod {module};"}.get(tuple(owners))

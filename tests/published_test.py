@@ -392,6 +392,16 @@ class Names(Case):
         self.told(*(f"Cursor::{name}, {CURSOR}: lib.rt does not pass it on under this path, expected a `pub use` or `pub mod`"
                     for name in ("first", "step")))
 
+    def test_passed_on_from_another_crate(self):
+        self.change(README, "| making, src/lib.rt |", "| starting, src/lib.rt |")
+        starting = self.root / "crates/starting/src/lib.rt"
+        starting.parent.mkdir(parents=True)
+        starting.write_text((self.root / LIB).read_text(encoding="utf-8").replace("making·specs.", "making."), encoding="utf-8")
+        self.change(LIB, "pub use adds::add_line;", "pub use adds::add_line;\npub use starting::begin;")
+        self.told()
+        self.change(README, "| making, src/lib.rt |", "| starting, src/lib.rt |")
+        self.told("making::begin, crates/starting/src/lib.rt: lib.rt does not pass it on under this path, expected a `pub use` or `pub mod`")
+
 
 class Demand2(Case):
     def test_a_case_that_is_not_run(self):

@@ -8,7 +8,7 @@ use denote.Ref.{now}
 use Rattle.words.specs.Words.{u32At}
 use Rattle.ultra_format.specs.Members.{sizeSuits}
 use Rattle.ultra_format.specs.Decoding.{decoded, storedType, storedSize}
-use Rattle.ultra_questions.proofs.Located.{Inside, inside, body-at}
+use Rattle.ultra_locating.proofs.Located.{Inside, inside, body-at}
 use Rattle.ultra_questions.specs.AttributeQuestion.{unanswered}
 use Rattle.ultra_questions.proofs.AttributeLaws.{StartIs, start-said, answer-passed, answer-found, answer-loaded}
 use borrow.Author.Needs.{needs}

@@ -4,8 +4,8 @@ use mathlib.Core.Path.{sym, ap, _∙_}
 use native.Mathlib.Omega.{arith}
 use denote.Ref.{now}
 use Rattle.refusals.specs.declared.Answer.the-variants.{Done, Refused}
-use Rattle.ultra_questions.specs.Passing.{Accepts}
-use Rattle.ultra_questions.proofs.Located.{head-inside}
+use Rattle.ultra_locating.specs.Passing.{Accepts}
+use Rattle.ultra_locating.proofs.Located.{head-inside}
 use Rattle.ultra_questions.proofs.AttributeLaws.{start-passed, start-past, start-found}
 use borrow.Author.Needs.{needs}
 use Rattle.ultra_questions.proofs.attributes.attribute_start.Statement.{statement}

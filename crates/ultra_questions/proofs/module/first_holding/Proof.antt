@@ -10,10 +10,10 @@ use Rattle.words.specs.Words.{u32At}
 use Rattle.ultra_format.specs.Members.{sizeSuits}
 use Rattle.ultra_format.specs.Decoding.{start, storedSize, storedAttribute, contextOf}
 use Rattle.ultra_reading.proofs.WalkLaws.{start-next}
-use Rattle.ultra_questions.specs.Searching.{firstIn, foundStart}
+use Rattle.ultra_locating.specs.Searching.{firstIn, foundStart}
 use Rattle.ultra_questions.specs.ModuleQuestion.{holding}
-use Rattle.ultra_questions.proofs.Located.{Inside, head-inside, inside, body-at}
-use Rattle.ultra_questions.proofs.Searches.{searched, search-here, search-next, search-end, search-whole}
+use Rattle.ultra_locating.proofs.Located.{Inside, head-inside, inside, body-at}
+use Rattle.ultra_locating.proofs.Searches.{searched, search-here, search-next, search-end, search-whole}
 use Rattle.ultra_questions.proofs.module.first_holding.Statement.{statement}
 use Rattle.ultra_questions.proofs.module.first_holding.Tie as tie
 
