@@ -25,7 +25,7 @@ import sys
 CALLS, CALLS_FROM_C = "crates/demand_2/specs/Calls.antt", "crates/demand_2/specs/CallsFromC.antt"
 ADDITIONS = "crates/ultra_format/specs/Additions.antt"
 # The call that no case stands for: its term, and where the names in it come from.
-WITHOUT_BUFFER = {"Cursor::first": ("cursorAt 0 8", {"cursorAt": "Rattle.ultra_reading.specs.Stepping.cursorAt"})}
+WITHOUT_BUFFER = {"Cursor::first": ("cursorAt 0 8", {"cursorAt": "Rattle.ultra_stepping.specs.Stepping.cursorAt"})}
 RELATIONS = {"≡": ("_≡_", "mathlib.Core.Path._≡_"), "PartOf": ("PartOf", "Rattle.ultra_questions.specs.Parts.PartOf")}
 # What stands around the definition that README.md names.
 AROUND = {"answerCrossed", "stepCrossed", "readingCrossed", "partCrossed", "crossed", "length"}

@@ -232,7 +232,7 @@ pub fn size(buf: &[u8]) -> u32
 }
 """,
     CURSOR: """ghost use mathlib.Core.Path.{_≡_};
-ghost use Rattle.ultra_reading.specs.Stepping.{cursorAt};
+ghost use Rattle.ultra_stepping.specs.Stepping.{cursorAt};
 ghost use Rattle.asking.specs.Asking.{stepOf};
 
 impl Cursor {

@@ -26,7 +26,7 @@ use Rattle.refusals.specs.declared.Answer.the-variants.{Done}
 use Rattle.ultra_format.proofs.Attributes.{Sized, width-attributes, sized, width-layout, Says, opens-says}
 use Rattle.ultra_format.proofs.Decoded.{starts}
 use Rattle.ultra_format.proofs.Witness.{silent-zero}
-use Rattle.ultra_reading.proofs.PlaceLaws.{length-types}
+use Rattle.ultra_places.proofs.PlaceLaws.{length-types}
 use Rattle.ultra_acceptance.specs.Acceptance.{HoldsContext}
 use Rattle.ultra_acceptance.proofs.Types.{fits, Ordered, ordered}
 use Rattle.ultra_acceptance.proofs.Walked.{accepted}

@@ -26,9 +26,10 @@ use Rattle.ultra_format.specs.Additions.{Addition, Addition.addPlatform, Additi
 use Rattle.refusals.proofs.Chains.{both-hold}
 use Rattle.ultra_format.proofs.Decoded.{decoded-only}
 use Rattle.ultra_format.proofs.Witness.{six-types-written, silent-zero}
-use Rattle.ultra_reading.specs.Reading.{headCheck, boundsCheck, attributesAnswer, usedLength}
-use Rattle.ultra_reading.specs.Stepping.{cursorAt}
-use Rattle.ultra_reading.specs.declared.cursor.Cursor.{Cursor}
+use Rattle.ultra_stepping.specs.Checks.{headCheck, boundsCheck}
+use Rattle.ultra_reading.specs.Reading.{attributesAnswer, usedLength}
+use Rattle.ultra_stepping.specs.Stepping.{cursorAt}
+use Rattle.ultra_stepping.specs.declared.cursor.Cursor.{Cursor}
 use Rattle.ultra_acceptance.specs.Acceptance.{HoldsContext}
 use Rattle.ultra_acceptance.proofs.Acceptance.{accepts-exactly}
 use Rattle.ultra_building.specs.Building.{begun, appendCheck, placement, addedMembers, added}

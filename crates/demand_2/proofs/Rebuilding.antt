@@ -21,7 +21,7 @@ use Rattle.ultra_format.specs.Decoding.{storedType, typesBefore}
 use Rattle.ultra_format.specs.Additions.{Addition, bodyGiven, formed, typeGiven, sizeGiven, attributeGiven, additionCheck}
 use Rattle.ultra_format.specs.Additions.{Addition.addCommandLine}
 use Rattle.ultra_format.proofs.Attributes.{attribute, at, sized, width-layout, body-fits, Says, opens-says}
-use Rattle.ultra_reading.proofs.PlaceLaws.{length-types}
+use Rattle.ultra_places.proofs.PlaceLaws.{length-types}
 use Rattle.ultra_acceptance.proofs.Walked.{accepted}
 use Rattle.ultra_acceptance.proofs.Acceptance.{complete}
 use Rattle.ultra_building.specs.Building.{appendCheck, begun, added}

@@ -25,14 +25,16 @@ use Rattle.refusals.specs.declared.Answer.{Answer}
 use Rattle.refusals.specs.declared.Answer.the-variants.{Done}
 use Rattle.refusals.proofs.Chains.{both-hold}
 use Rattle.ultra_format.proofs.Decoded.{starts, decoded-only}
-use Rattle.ultra_reading.specs.Reading.{headCheck, boundsCheck, usedLength, versionOf, withVersion, readingOf}
-use Rattle.ultra_reading.specs.Stepping.{cursorCheck, stepRefused, cursorAt, headerAt, stepOf}
-use Rattle.ultra_reading.specs.declared.cursor.Cursor.{Cursor}
-use Rattle.ultra_reading.specs.declared.cursor.Step.{Step}
-use Rattle.ultra_reading.specs.declared.cursor.Step.the-variants as stepping
-use Rattle.ultra_reading.proofs.HeadLaws.{HeadHolds, accepted-head, stop-missing, head-passes, head-refuses}
-use Rattle.ultra_reading.proofs.BoundsLaws.{bounds-pass}
-use Rattle.ultra_reading.proofs.StepLaws.{only-bounds, step-next}
+use Rattle.ultra_stepping.specs.Checks.{headCheck, boundsCheck}
+use Rattle.ultra_reading.specs.Reading.{usedLength, versionOf, withVersion, readingOf}
+use Rattle.ultra_stepping.specs.Stepping.{cursorCheck, stepRefused, cursorAt, headerAt, stepOf}
+use Rattle.ultra_stepping.specs.declared.cursor.Cursor.{Cursor}
+use Rattle.ultra_stepping.specs.declared.cursor.Step.{Step}
+use Rattle.ultra_stepping.specs.declared.cursor.Step.the-variants as stepping
+use Rattle.ultra_stepping.proofs.HeadLaws.{HeadHolds, stop-missing, head-passes}
+use Rattle.ultra_reading.proofs.ReadingLaws.{accepted-head, head-refuses}
+use Rattle.ultra_stepping.proofs.BoundsLaws.{bounds-pass}
+use Rattle.ultra_stepping.proofs.StepLaws.{only-bounds, step-next}
 use Rattle.ultra_acceptance.specs.Acceptance.{HoldsContext}
 use Rattle.ultra_acceptance.proofs.Walked.{Accepted, accepted}
 use Rattle.ultra_acceptance.proofs.Acceptance.{complete, rehoused, held-reading}

@@ -11,10 +11,10 @@ use Rattle.ultra_format.specs.Contexts.{Body}
 use Rattle.ultra_format.specs.Additions.{Addition, platformOf, kernelOf, mapOf, moduleOf, mapFormed, guidsFormed}
 use Rattle.refusals.specs.declared.Answer.{Answer}
 use Rattle.ultra_reading.specs.Reading.{readingOf}
-use Rattle.ultra_reading.specs.Stepping.{stepOf}
+use Rattle.ultra_stepping.specs.Stepping.{stepOf}
 use Rattle.ultra_reading.specs.declared.Reading.{Reading}
-use Rattle.ultra_reading.specs.declared.cursor.Cursor.{Cursor}
-use Rattle.ultra_reading.specs.declared.cursor.Step.{Step}
+use Rattle.ultra_stepping.specs.declared.cursor.Cursor.{Cursor}
+use Rattle.ultra_stepping.specs.declared.cursor.Step.{Step}
 use Rattle.ultra_questions.specs.declared.part.Part.{Part}
 use Rattle.ultra_questions.specs.declared.attributes.AttributeAnswer.{AttributeAnswer}
 use Rattle.ultra_questions.specs.AttributeQuestion.{attributeStart, attributeAnswer}

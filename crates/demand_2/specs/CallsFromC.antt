@@ -7,7 +7,7 @@ use mathlib.Core.List.{List, [], _∷_}
 use Rattle.ultra_format.specs.Contexts.{Body.commandLine}
 use Rattle.ultra_format.specs.Additions.{Addition.addCommandLine, Addition.addFramebuffer, platformOf, kernelOf, mapOf, moduleOf, framebufferOf, mapFormed, guidsFormed}
 use Rattle.ultra_reading.specs.Reading.{readingOf}
-use Rattle.ultra_reading.specs.Stepping.{cursorAt, stepOf}
+use Rattle.ultra_stepping.specs.Stepping.{cursorAt, stepOf}
 use Rattle.ultra_questions.specs.AttributeQuestion.{attributeStart}
 use Rattle.ultra_map_question.specs.MapQuestion.{mapCopiedBytes}
 use Rattle.ultra_questions.specs.CommandLineQuestion.{commandLinePart}

@@ -30,7 +30,7 @@ use Rattle.refusals.specs.declared.Answer.{Answer}
 use Rattle.refusals.specs.declared.Answer.the-variants.{Done, Refused}
 use Rattle.ultra_reading.specs.Reading.{usedLength, readingOf}
 use Rattle.ultra_reading.specs.declared.Reading.the-variants.{Accepted}
-use Rattle.ultra_reading.specs.declared.cursor.Cursor.{Cursor}
+use Rattle.ultra_stepping.specs.declared.cursor.Cursor.{Cursor}
 use Rattle.ultra_acceptance.specs.Acceptance.{HoldsContext, versionIn}
 use Rattle.ultra_acceptance.specs.Steps.{StepsThrough}
 use Rattle.ultra_questions.specs.declared.attributes.AttributeAnswer.{AttributeAnswer}

@@ -20,12 +20,12 @@ use Rattle.ultra_format.specs.Additions.{Addition, typeGiven, attributeGiven, b
 use Rattle.ultra_format.specs.Additions.{Addition.addPlatform, Addition.addKernel, Addition.addMap, Addition.addModule, Addition.addCommandLine, Addition.addFramebuffer}
 use Rattle.refusals.specs.declared.Answer.{Answer}
 use Rattle.refusals.specs.declared.Answer.the-variants.{Done, Refused}
-use Rattle.ultra_reading.specs.Reading.{boundsCheck}
-use Rattle.ultra_reading.specs.Stepping.{stepRefused, cursorAt, headerAt}
+use Rattle.ultra_stepping.specs.Checks.{boundsCheck}
+use Rattle.ultra_stepping.specs.Stepping.{stepRefused, cursorAt, headerAt}
 use Rattle.ultra_reading.specs.declared.Reading.the-variants as readings
-use Rattle.ultra_reading.specs.declared.cursor.Cursor.{Cursor}
-use Rattle.ultra_reading.specs.declared.cursor.Step.{Step}
-use Rattle.ultra_reading.specs.declared.cursor.Step.the-variants as stepping
+use Rattle.ultra_stepping.specs.declared.cursor.Cursor.{Cursor}
+use Rattle.ultra_stepping.specs.declared.cursor.Step.{Step}
+use Rattle.ultra_stepping.specs.declared.cursor.Step.the-variants as stepping
 use Rattle.ultra_acceptance.specs.Acceptance.{versionIn}
 use Rattle.ultra_questions.specs.Parts.{noPart, bodyPart, partBytes}
 use Rattle.ultra_questions.specs.AttributeQuestion.{unanswered, startOrCount, withMembers}

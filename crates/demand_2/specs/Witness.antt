@@ -23,7 +23,7 @@ use Rattle.refusals.specs.declared.Answer.the-variants.{Done}
 use Rattle.ultra_format.specs.declared.records.PlatformRecord.{PlatformRecord}
 use Rattle.ultra_format.specs.declared.records.OptionalU64.the-variants as wide
 use Rattle.ultra_format.specs.declared.records.OptionalU8.the-variants as narrow
-use Rattle.ultra_reading.specs.Stepping.{cursorAt}
+use Rattle.ultra_stepping.specs.Stepping.{cursorAt}
 use Rattle.ultra_building.specs.Building.{begun, added}
 use Rattle.ultra_acceptance.specs.Acceptance.{HoldsContext}
 use Rattle.demand_3.specs.Witness.{everyPlatformRecord, everyKernelRecord, everyModuleRecord, everyFramebufferRecord, everyEntries, everyLine}

@@ -7,8 +7,9 @@ use Rattle.ultra_format.specs.Members.{every, sizeSuits, values, kernelValues, 
 use Rattle.ultra_format.specs.Contexts.{total}
 use Rattle.ultra_format.specs.Places.{placed, occurs, placeCheck}
 use Rattle.ultra_format.specs.Decoding.{entriesAt, decoded, start, typesBefore, attributesFrom, contextOf}
-use Rattle.ultra_reading.specs.Reading.{headCheck, boundsCheck, attributeCheck, attributesAnswer, usedLength, readingOf}
-use Rattle.ultra_reading.specs.Stepping.{cursorCheck, stepOf}
+use Rattle.ultra_stepping.specs.Checks.{headCheck, boundsCheck}
+use Rattle.ultra_reading.specs.Reading.{attributeCheck, attributesAnswer, usedLength, readingOf}
+use Rattle.ultra_stepping.specs.Stepping.{cursorCheck, stepOf}
 use Rattle.ultra_questions.specs.Parts.{bodyPart}
 use Rattle.ultra_locating.specs.Searching.{first}
 use Rattle.ultra_questions.specs.AttributeQuestion.{attributeStart}

@@ -6,9 +6,9 @@ use mathlib.Core.List.{List}
 use Rattle.refusals.specs.Answers.{numberOf, valueOf}
 use Rattle.refusals.specs.declared.Answer.{Answer}
 use Rattle.ultra_reading.specs.Reading.{readingNumber, readingValue}
-use Rattle.ultra_reading.specs.Stepping.{stepNumber, stepValue}
+use Rattle.ultra_stepping.specs.Stepping.{stepNumber, stepValue}
 use Rattle.ultra_reading.specs.declared.Reading.{Reading}
-use Rattle.ultra_reading.specs.declared.cursor.Step.{Step}
+use Rattle.ultra_stepping.specs.declared.cursor.Step.{Step}
 use Rattle.ultra_questions.specs.declared.part.Part.{Part}
 
 abbrev pub numberAndValue : ℕ → ℕ → ℕ

@@ -10,7 +10,7 @@ use Rattle.ultra_format.specs.Additions.{mapFormed, guidsFormed}
 use Rattle.ultra_format.specs.Examples.{listedBytes, everyTypeBytes}
 use Rattle.ultra_reading.specs.Cases.{head}
 use Rattle.ultra_reading.specs.Reading.{readingOf}
-use Rattle.ultra_reading.specs.Stepping.{cursorAt, stepOf}
+use Rattle.ultra_stepping.specs.Stepping.{cursorAt, stepOf}
 use Rattle.ultra_questions.specs.AttributeQuestion.{attributeStart}
 use Rattle.ultra_questions.specs.CommandLineQuestion.{commandLinePart}
 use Rattle.ultra_map_question.specs.MapQuestion.{mapCopiedBytes}

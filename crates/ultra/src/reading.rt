@@ -1,7 +1,7 @@
 // Reading and stepping.
 ghost use mathlib.Core.Path.{_≡_};
 ghost use Rattle.ultra_reading.specs.Reading.{readingOf};
-ghost use Rattle.ultra_reading.specs.Stepping.{cursorAt, stepOf};
+ghost use Rattle.ultra_stepping.specs.Stepping.{cursorAt, stepOf};
 ghost use Rattle.ultra.specs.Crossing.{readingCrossed, stepCrossed};
 use ultra_reading::Cursor;
 

@@ -21,7 +21,8 @@ use Rattle.refusals.specs.declared.Answer.the-variants.{Done, Refused}
 use Rattle.ultra_format.proofs.Bodies.{by-type}
 use Rattle.ultra_format.proofs.Attributes.{at, Sized, sized, width-attribute, width-layout, says-fits, says-opens}
 use Rattle.ultra_format.proofs.Decoded.{count-decoded, at-decoded, type-decoded, used-decoded, says-decoded, decoded-only}
-use Rattle.ultra_reading.specs.Reading.{headCheck, checkOf, attributesAnswer, usedLength, versionOf, withVersion, readingOf, readingNumber}
+use Rattle.ultra_stepping.specs.Checks.{headCheck}
+use Rattle.ultra_reading.specs.Reading.{checkOf, attributesAnswer, usedLength, versionOf, withVersion, readingOf, readingNumber}
 use Rattle.ultra_reading.specs.declared.Reading.the-variants as reading
 use Rattle.ultra_acceptance.specs.Acceptance.{HoldsContext, AcceptsExactly, OneContext, SilentBytes, versionIn, ReadsExactly, ReadsHeld}
 use Rattle.ultra_acceptance.proofs.Types.{fits, Ordered, ordered, no-check}

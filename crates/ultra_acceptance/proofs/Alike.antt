@@ -24,12 +24,13 @@ use Rattle.refusals.specs.declared.Answer.{Answer}
 use Rattle.refusals.specs.declared.Answer.the-variants.{Done, Refused}
 use Rattle.ultra_format.proofs.Bodies.{by-type, decoded-type, body-stored, body-only}
 use Rattle.ultra_format.proofs.Numbers.{length-entries}
-use Rattle.ultra_reading.specs.Reading.{Clear, headCheck, boundsCheck, attributeCheck, checkOf, attributesAnswer, usedLength, versionOf, withVersion, readingOf}
-use Rattle.ultra_reading.specs.Stepping.{stepRefused}
-use Rattle.ultra_reading.specs.declared.cursor.Step.{Step}
-use Rattle.ultra_reading.proofs.HeadLaws.{head-holds, stop-short, accepted-head}
-use Rattle.ultra_reading.proofs.BoundsLaws.{BoundsHold, bounds-hold, stop-header}
-use Rattle.ultra_reading.proofs.WalkLaws.{attribute-bounds}
+use Rattle.ultra_stepping.specs.Checks.{headCheck, boundsCheck}
+use Rattle.ultra_reading.specs.Reading.{Clear, attributeCheck, checkOf, attributesAnswer, usedLength, versionOf, withVersion, readingOf}
+use Rattle.ultra_stepping.specs.Stepping.{stepRefused}
+use Rattle.ultra_stepping.specs.declared.cursor.Step.{Step}
+use Rattle.ultra_stepping.proofs.HeadLaws.{head-holds, stop-short}
+use Rattle.ultra_reading.proofs.ReadingLaws.{accepted-head, attribute-in-bounds}
+use Rattle.ultra_stepping.proofs.BoundsLaws.{BoundsHold, bounds-hold, stop-header}
 use Rattle.ultra_acceptance.specs.Unread.{ReadAlike, SameByte}
 use Rattle.ultra_acceptance.proofs.Acceptance.{suits-type}
 use Rattle.ultra_acceptance.proofs.SameFields.{Same, number-alike, same-holds}
@@ -124,7 +125,7 @@ module _ (b d : List ℕ) (s : SameRead b d) where
       let head = s .header i (omega arith) c in
       let f : checkOf d (roomOf b) i ≡ checkOf b (roomOf b) i = rw (p, q) (check-alike b d (start b i) head (typesBefore b i) (s .body i (omega arith) c)) in
       or-alike (checkOf d (roomOf b) i) (checkOf b (roomOf b) i) (start d i) (start b i) _ _ f p (λ z.
-      let k = attribute-bounds b (roomOf b) (typesBefore b i) (start b i) z in
+      let k = bounds-hold b (roomOf b) (start b i) (attribute-in-bounds b (roomOf b) (typesBefore b i) (start b i) z) in
       walk-alike (suc i) n (omega arith) (λ j g. below-more _ _ c z j (omega arith))
       (rw (p, size-alike b d (start b i) head (k .header))) (rw (p, q, kind-alike b d (start b i) head (k .header))))
 

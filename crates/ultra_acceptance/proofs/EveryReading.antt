@@ -15,13 +15,13 @@ use Rattle.ultra_format.specs.Decoding.{start, contextOf}
 use Rattle.ultra_format.specs.Examples.{everyType, everyTypeBytes}
 use Rattle.ultra_format.proofs.Witness.{every-type-meets, every-type-opens}
 use Rattle.ultra_reading.specs.Reading.{readingOf, readingNumber, readingValue}
-use Rattle.ultra_reading.specs.Stepping.{stepOf, stepNumber, stepValue}
+use Rattle.ultra_stepping.specs.Stepping.{stepOf, stepNumber, stepValue}
 use Rattle.ultra_reading.specs.declared.Reading.{Reading}
 use Rattle.ultra_reading.specs.declared.Reading.the-variants as reading
-use Rattle.ultra_reading.specs.declared.cursor.Header.{Header}
-use Rattle.ultra_reading.specs.declared.cursor.Cursor.{Cursor}
-use Rattle.ultra_reading.specs.declared.cursor.Step.{Step}
-use Rattle.ultra_reading.specs.declared.cursor.Step.the-variants.{Attribute, End, Refused}
+use Rattle.ultra_stepping.specs.declared.cursor.Header.{Header}
+use Rattle.ultra_stepping.specs.declared.cursor.Cursor.{Cursor}
+use Rattle.ultra_stepping.specs.declared.cursor.Step.{Step}
+use Rattle.ultra_stepping.specs.declared.cursor.Step.the-variants.{Attribute, End, Refused}
 use Rattle.ultra_acceptance.specs.Acceptance.{HoldsContext, versionIn, ReadsExactly, ReadsHeld}
 use Rattle.ultra_acceptance.specs.Refusing.{Refuses, ReadingRefuses}
 use Rattle.ultra_acceptance.specs.Steps.{StepRefuses, StepEnds, StepGives, StepsExactly, SteppingThrough}

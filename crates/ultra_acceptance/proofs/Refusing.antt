@@ -16,8 +16,7 @@ use Rattle.refusals.specs.declared.Answer.the-variants.{Done, Refused}
 use Rattle.ultra_reading.specs.Reading.{attributesAnswer, usedLength, versionOf, withVersion, readingOf}
 use Rattle.ultra_reading.specs.declared.Version.{Version}
 use Rattle.ultra_reading.specs.declared.Reading.the-variants as reading
-use Rattle.ultra_reading.proofs.HeadLaws.{head-refuses, head-goes-on}
-use Rattle.ultra_reading.proofs.WalkLaws.{walk-refuse, walk-next, walk-end}
+use Rattle.ultra_reading.proofs.ReadingLaws.{head-refuses, head-goes-on, walk-refuse, walk-next, walk-end}
 use Rattle.ultra_acceptance.specs.Refusing.{HeadBreaks, NoneBreaks, ClearBefore, Refuses, RefusesExactly, ReadingRefuses}
 use Rattle.ultra_acceptance.specs.Refusing.{Refuses.head, Refuses.attribute}
 use Rattle.ultra_acceptance.proofs.Least.{settled-none, settled-least}

@@ -18,8 +18,9 @@ use Rattle.ultra_format.specs.Members.{sizeSuits, values, texts, ranges, ordere
 use Rattle.ultra_format.specs.Places.{placed, single, repeatable, occurs, nearest, placeCheck}
 use Rattle.ultra_format.specs.Decoding.{start, storedType, storedSize, storedCount, typesBefore}
 use Rattle.refusals.proofs.Chains.{both-hold}
-use Rattle.ultra_reading.specs.Reading.{headCheck, boundsCheck, attributeCheck, checkOf}
-use Rattle.ultra_reading.proofs.PlaceLaws.{placed-first, placed-second, placed-later, length-types, occurs-here}
+use Rattle.ultra_stepping.specs.Checks.{headCheck, boundsCheck}
+use Rattle.ultra_reading.specs.Reading.{attributeCheck, checkOf}
+use Rattle.ultra_places.proofs.PlaceLaws.{placed-first, placed-second, placed-later, length-types, occurs-here}
 use Rattle.ultra_acceptance.specs.Refusing.{HeadBreaks, Breaks, storedBody}
 use Rattle.ultra_acceptance.specs.Refusing.{HeadBreaks.short, HeadBreaks.version, HeadBreaks.count, HeadBreaks.missing}
 use Rattle.ultra_acceptance.specs.Refusing.{Breaks.header, Breaks.size, Breaks.overrun, Breaks.untyped, Breaks.first, Breaks.second, Breaks.later, Breaks.repeat, Breaks.split}

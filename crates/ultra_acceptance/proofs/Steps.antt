@@ -20,15 +20,15 @@ use Rattle.refusals.specs.declared.Refusal.{Refusal}
 use Rattle.ultra_format.proofs.Attributes.{Says, sized, opens-says}
 use Rattle.refusals.proofs.Chains.{both-hold}
 use Rattle.ultra_format.proofs.Decoded.{starts}
-use Rattle.ultra_reading.specs.Reading.{headCheck}
-use Rattle.ultra_reading.specs.Stepping.{cursorCheck, cursorAt, headerAt, stepOf, stepNumber, stepValue}
-use Rattle.ultra_reading.specs.declared.cursor.Header.{Header}
-use Rattle.ultra_reading.specs.declared.cursor.Cursor.{Cursor}
-use Rattle.ultra_reading.specs.declared.cursor.Step.{Step}
-use Rattle.ultra_reading.specs.declared.cursor.Step.the-variants.{Attribute, End, Refused}
-use Rattle.ultra_reading.proofs.HeadLaws.{head-passes}
-use Rattle.ultra_reading.proofs.BoundsLaws.{bounds-pass}
-use Rattle.ultra_reading.proofs.StepLaws.{only-bounds, step-head, step-end, step-check, step-next}
+use Rattle.ultra_stepping.specs.Checks.{headCheck}
+use Rattle.ultra_stepping.specs.Stepping.{cursorCheck, cursorAt, headerAt, stepOf, stepNumber, stepValue}
+use Rattle.ultra_stepping.specs.declared.cursor.Header.{Header}
+use Rattle.ultra_stepping.specs.declared.cursor.Cursor.{Cursor}
+use Rattle.ultra_stepping.specs.declared.cursor.Step.{Step}
+use Rattle.ultra_stepping.specs.declared.cursor.Step.the-variants.{Attribute, End, Refused}
+use Rattle.ultra_stepping.proofs.HeadLaws.{head-passes}
+use Rattle.ultra_stepping.proofs.BoundsLaws.{bounds-pass}
+use Rattle.ultra_stepping.proofs.StepLaws.{only-bounds, step-head, step-end, step-check, step-next}
 use Rattle.ultra_acceptance.specs.Acceptance.{HoldsContext}
 use Rattle.ultra_acceptance.specs.Refusing.{HeadBreaks, NoneBreaks}
 use Rattle.ultra_acceptance.specs.Steps.{CursorBreaks, StepRefuses, StepEnds, StepGives, StepsExactly, cursorOf, SteppingThrough}

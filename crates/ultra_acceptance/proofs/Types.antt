@@ -13,7 +13,7 @@ use borrow.Author.Tests.{leb-true, leb-false, eqb-true, eqb-false, eq-eqb, ne-eq
 use Rattle.ultra_format.specs.Places.{placed, single, repeatable, occurs, nearest, placeCheck}
 use Rattle.ultra_format.specs.Decoding.{storedType, typesBefore}
 use Rattle.refusals.proofs.Chains.{passed}
-use Rattle.ultra_reading.proofs.PlaceLaws.{high-repeatable, pass-new, pass-neighbour, length-types, occurs-here}
+use Rattle.ultra_places.proofs.PlaceLaws.{high-repeatable, pass-new, pass-neighbour, length-types, occurs-here}
 
 -- ---- one attribute
 -- what it says that the tests 9 to 11 pass

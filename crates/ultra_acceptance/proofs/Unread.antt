@@ -15,10 +15,10 @@ use Rattle.ultra_format.specs.Decoding.{pick, start, storedType, storedSize, st
 use Rattle.ultra_format.proofs.Attributes.{width-attribute}
 use Rattle.refusals.proofs.Chains.{passed}
 use Rattle.ultra_reading.specs.Reading.{Clear}
-use Rattle.ultra_reading.specs.Stepping.{cursorCheck, stepOf}
-use Rattle.ultra_reading.specs.declared.cursor.Cursor.{Cursor}
-use Rattle.ultra_reading.proofs.HeadLaws.{head-holds}
-use Rattle.ultra_reading.proofs.BoundsLaws.{bounds-hold}
+use Rattle.ultra_stepping.specs.Stepping.{cursorCheck, stepOf}
+use Rattle.ultra_stepping.specs.declared.cursor.Cursor.{Cursor}
+use Rattle.ultra_stepping.proofs.HeadLaws.{head-holds}
+use Rattle.ultra_stepping.proofs.BoundsLaws.{bounds-hold}
 use Rattle.ultra_acceptance.specs.Unread.{ReadAlike, PastRoomUnread, SameByte, SameButSilent, SilentUnread, SameButSilentInList, SilentInListUnread}
 use Rattle.ultra_acceptance.proofs.SameFields.{same-along}
 use Rattle.ultra_acceptance.proofs.SilentCells.{past, silent-body}

@@ -20,7 +20,8 @@ use Rattle.ultra_format.specs.Members.{every, sizeSuits, values, kernelValues, 
 use Rattle.ultra_format.specs.Places.{placed, occurs, placeCheck}
 use Rattle.ultra_format.specs.Decoding.{contextOf, attributesFrom, start, storedType, storedSize, storedCount, decoded, entriesAt, typesBefore}
 use Rattle.refusals.proofs.Chains.{both-hold}
-use Rattle.ultra_reading.specs.Reading.{headCheck, boundsCheck, attributeCheck, attributesAnswer, usedLength, readingOf}
+use Rattle.ultra_stepping.specs.Checks.{headCheck, boundsCheck}
+use Rattle.ultra_reading.specs.Reading.{attributeCheck, attributesAnswer, usedLength, readingOf}
 use Rattle.ultra_reading.specs.declared.Reading.the-variants.{Refused}
 use Rattle.ultra_acceptance.specs.Unread.{SilentByte, SameButSilent, SameButSilentInList}
 use Rattle.ultra_acceptance.specs.Unread.{SilentByte.platformReserved, SilentByte.platformTail, SilentByte.kernelTail, SilentByte.moduleReserved, SilentByte.moduleTail, SilentByte.framebufferTail}

@@ -7,6 +7,7 @@ use mathlib.Core.List.{List}
 use mathlib.Core.Logic.{⊎-elim}
 use native.Mathlib.Omega.{arith}
 use native.Mathlib.Nat.{not-suc-le-zero, eq-or-lt-of-le, le-of-suc-le-suc, add-zero, zero-add}
+use lib.ListN.{length}
 use Rattle.ultra_format.specs.Layouts.{roomOf}
 use Rattle.ultra_format.specs.Members.{sizeSuits, values, texts, ranges, ordered, bodyCheck}
 use Rattle.ultra_format.specs.Contexts.{Body}
@@ -14,10 +15,13 @@ use Rattle.ultra_format.specs.Places.{placeCheck}
 use Rattle.ultra_format.specs.Decoding.{decoded, start, storedType, storedSize, storedCount, typesBefore}
 use Rattle.refusals.specs.declared.Answer.the-variants.{Done}
 use Rattle.refusals.proofs.Chains.{passed, none-first, not-refused}
-use Rattle.ultra_reading.specs.Reading.{headCheck, boundsCheck, attributeCheck, checkOf, attributesAnswer, usedLength}
-use Rattle.ultra_reading.proofs.HeadLaws.{HeadHolds, head-holds, head-passes, head-goes-on}
-use Rattle.ultra_reading.proofs.BoundsLaws.{BoundsHold, bounds-hold, bounds-pass}
-use Rattle.ultra_reading.proofs.WalkLaws.{only-body}
+use Rattle.ultra_stepping.specs.Checks.{headCheck, boundsCheck}
+use Rattle.ultra_stepping.specs.Walking.{InBounds}
+use Rattle.ultra_reading.specs.Reading.{attributeCheck, checkOf, attributesAnswer, usedLength}
+use Rattle.ultra_stepping.proofs.HeadLaws.{HeadHolds, head-holds, head-passes}
+use Rattle.ultra_reading.proofs.ReadingLaws.{head-goes-on, only-body}
+use Rattle.ultra_stepping.proofs.BoundsLaws.{BoundsHold, bounds-hold, bounds-checked}
+use Rattle.ultra_stepping.proofs.WalkLaws.{Reached, reached, in-larger}
 
 -- ---- a body
 pub record BodyHolds (s : ℕ) (x : Body) : Type 0 where
@@ -55,10 +59,7 @@ passes b room i e =
     record { bounds = bounds-hold b room (start b i) (p1 .0); place = p2 .0; body = body-holds _ _ (p2 .1) }
 
 pub passing : (b : List ℕ) (room i : ℕ) → Passes b room i → checkOf b room i ≡ 0
-passing b room i h =
-    let k = h .bounds in
-    sym (only-body b room (typesBefore b i) (start b i) (sym (bounds-pass b room (start b i) (k .header) (k .least) (k .eights) (k .within) (k .typed))) (h .place))
-    ∙ body-passes _ _ (h .body)
+passing b room i h = sym (only-body b room (typesBefore b i) (start b i) (bounds-checked _ _ _ (h .bounds)) (h .place)) ∙ body-passes _ _ (h .body)
 
 -- ---- n attributes from attribute i on
 walked : (b : List ℕ) (room i n m : ℕ) → attributesAnswer b room i n ≡ Done m → ((j : ℕ) → i ≤ j → j < i + n → checkOf b room j ≡ 0) × (m ≡ start b (i + n))
@@ -113,3 +114,11 @@ unfolding start
 ends b zero i h = absurd (not-suc-le-zero h)
 ends b (suc n) i h =
     ⊎-elim (λ q. rw q (omega arith)) (λ lt. let r = ends b n i lt in omega arith) (eq-or-lt-of-le (le-of-suc-le-suc h))
+
+-- ---- the walk over an accepted buffer
+module _ (fewest : ℕ) (b : List ℕ) (n : ℕ) (a : Accepted fewest b n) where
+  pub in-bounds : InBounds b (storedCount b)
+  in-bounds j l = in-larger b (roomOf b) (length b) (start b j) (omega arith) (bounds-checked _ _ _ (a .each j l .bounds))
+
+  pub walk-reached : (i at : ℕ) → i < storedCount b → at ≡ start b i → Reached b (roomOf b) i at
+  walk-reached i at l e = reached b (roomOf b) i at e (bounds-checked _ _ _ (a .each i l .bounds))

@@ -13,11 +13,11 @@ use Rattle.ultra_format.specs.Layouts.{Silent}
 use Rattle.ultra_format.specs.Decoding.{contextOf}
 use Rattle.ultra_format.specs.Examples.{everyType, everyTypeBytes}
 use Rattle.ultra_reading.specs.Reading.{readingOf, readingNumber}
-use Rattle.ultra_reading.specs.Stepping.{stepOf}
+use Rattle.ultra_stepping.specs.Stepping.{stepOf}
 use Rattle.ultra_reading.specs.declared.Reading.the-variants as reading
-use Rattle.ultra_reading.specs.declared.cursor.Header.{Header}
-use Rattle.ultra_reading.specs.declared.cursor.Cursor.{Cursor}
-use Rattle.ultra_reading.specs.declared.cursor.Step.the-variants.{Attribute, End, Refused}
+use Rattle.ultra_stepping.specs.declared.cursor.Header.{Header}
+use Rattle.ultra_stepping.specs.declared.cursor.Cursor.{Cursor}
+use Rattle.ultra_stepping.specs.declared.cursor.Step.the-variants.{Attribute, End, Refused}
 use Rattle.ultra_acceptance.specs.Acceptance.{HoldsContext, versionIn}
 use Rattle.ultra_acceptance.specs.Refusing.{Refuses}
 use Rattle.ultra_acceptance.specs.Steps.{StepRefuses, StepEnds, StepGives, StepsThrough}

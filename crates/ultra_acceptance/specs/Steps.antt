@@ -14,10 +14,10 @@ use Rattle.ultra_format.specs.Contexts.{Context, count, typeAt, sizeAt, startIn
 use Rattle.ultra_format.specs.Layouts.{roomOf}
 use Rattle.ultra_format.specs.Decoding.{storedCount}
 use Rattle.refusals.specs.declared.Refusal.{Refusal}
-use Rattle.ultra_reading.specs.Stepping.{stepOf, stepNumber, stepValue}
-use Rattle.ultra_reading.specs.declared.cursor.Header.{Header}
-use Rattle.ultra_reading.specs.declared.cursor.Cursor.{Cursor}
-use Rattle.ultra_reading.specs.declared.cursor.Step.the-variants.{Attribute, End, Refused}
+use Rattle.ultra_stepping.specs.Stepping.{stepOf, stepNumber, stepValue}
+use Rattle.ultra_stepping.specs.declared.cursor.Header.{Header}
+use Rattle.ultra_stepping.specs.declared.cursor.Cursor.{Cursor}
+use Rattle.ultra_stepping.specs.declared.cursor.Step.the-variants.{Attribute, End, Refused}
 use Rattle.ultra_acceptance.specs.Acceptance.{HoldsContext}
 use Rattle.ultra_acceptance.specs.Refusing.{HeadBreaks, NoneBreaks, Least}
 

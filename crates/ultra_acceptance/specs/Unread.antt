@@ -9,8 +9,8 @@ use lib.ListN.{getD, take}
 use Rattle.ultra_format.specs.Layouts.{Silent, roomOf}
 use Rattle.ultra_format.specs.Decoding.{start, storedType, storedSize, storedCount, contextOf}
 use Rattle.ultra_reading.specs.Reading.{Clear, usedLength, readingOf}
-use Rattle.ultra_reading.specs.Stepping.{stepOf}
-use Rattle.ultra_reading.specs.declared.cursor.Cursor.{Cursor}
+use Rattle.ultra_stepping.specs.Stepping.{stepOf}
+use Rattle.ultra_stepping.specs.declared.cursor.Cursor.{Cursor}
 
 -- d is read as b is: accepted alike, or refused with the same number at the same offset, with every lower limit of the count
 pub record ReadAlike (b d : List ℕ) : Type 0 where

@@ -28,7 +28,7 @@ use Rattle.refusals.specs.declared.Answer.the-variants.{Done, Refused}
 use Rattle.refusals.proofs.Chains.{refuses}
 use Rattle.ultra_format.proofs.Decoded.{count-decoded, type-decoded, decoded-only}
 use Rattle.ultra_reading.specs.Reading.{usedLength}
-use Rattle.ultra_reading.proofs.PlaceLaws.{length-types}
+use Rattle.ultra_places.proofs.PlaceLaws.{length-types}
 use Rattle.ultra_acceptance.specs.Acceptance.{HoldsContext}
 use Rattle.ultra_acceptance.specs.Refusing.{NoneBreaks, Least}
 use Rattle.ultra_acceptance.proofs.Acceptance.{accepts-exactly, used-number}

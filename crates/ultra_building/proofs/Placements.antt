@@ -17,14 +17,15 @@ use Rattle.refusals.specs.declared.Refusal.{Refusal}
 use Rattle.refusals.specs.declared.Answer.{Answer}
 use Rattle.refusals.specs.declared.Answer.the-variants.{Done, Refused}
 use Rattle.refusals.proofs.Chains.{passed, none-first, first-stays, refuses, not-refused}
-use Rattle.ultra_reading.specs.Reading.{Clear, usedLength}
-use Rattle.ultra_acceptance.proofs.Walked.{accepted, passing, inside}
+use Rattle.ultra_stepping.specs.Walking.{InBounds}
+use Rattle.ultra_reading.specs.Reading.{usedLength}
+use Rattle.ultra_acceptance.proofs.Walked.{accepted, inside, in-bounds}
 use Rattle.ultra_building.specs.Building.{appendCheck, placementIn, placement, counted, admitted}
 
 -- ---- a buffer that was read
 pub record Read (b : List ℕ) (n : ℕ) : Type 0 where
   pub room : 8 ≤ roomOf b
-  pub clear : Clear b (roomOf b) (storedCount b)
+  pub bounds : InBounds b (storedCount b)
   pub within : n ≤ roomOf b
   pub most : storedCount b ≤ 1024
 
@@ -33,7 +34,7 @@ was-read b n e =
     let a = accepted 0 b n e in
     record {
       room = a .head .room;
-      clear = λ j l. passing b (roomOf b) j (a .each j l);
+      bounds = in-bounds 0 b n a;
       within = rw (a .used) (inside b (roomOf b) (storedCount b) (a .head .room) (a .each));
       most = a .head .most;
     }

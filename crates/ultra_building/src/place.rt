@@ -21,7 +21,7 @@ fn check(buf: &[u8], used: u32, kind: u32, given: u16, size: usize) -> u16
         return refusals::FULL;
     }
     let room = ultra_reading::room(buf);
-    let place = ultra_reading::next_place_check(buf, room, count, kind);
+    let place = ultra_reading::next_place_check(buf, count, kind);
     let short = room - (used as usize) < size;
     if place != 0 {
         return place;

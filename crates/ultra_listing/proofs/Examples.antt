@@ -9,7 +9,8 @@ use Rattle.ultra_format.specs.Contexts.{total}
 use Rattle.ultra_format.specs.Members.{every, sizeSuits, values, kernelValues, moduleValues, bppSuits, framebufferValues, texts, asciiText, pathText, ranges, ordered, entriesOrdered, bodyCheck}
 use Rattle.ultra_format.specs.Places.{placed, occurs, placeCheck}
 use Rattle.ultra_format.specs.Decoding.{entriesAt, decoded, start, attributesFrom, contextOf, typesBefore}
-use Rattle.ultra_reading.specs.Reading.{headCheck, boundsCheck, attributeCheck, attributesAnswer, usedLength}
+use Rattle.ultra_stepping.specs.Checks.{headCheck, boundsCheck}
+use Rattle.ultra_reading.specs.Reading.{attributeCheck, attributesAnswer, usedLength}
 use Rattle.ultra_listing.specs.Listing.{rangeLines, bodyLines, attributesLines, contextLines, linesOf, listed}
 use Rattle.ultra_listing.specs.Examples.{Examples}
 

@@ -1,6 +1,2 @@
-pub mod HeadLaws
-pub mod BoundsLaws
-pub mod PlaceLaws
-pub mod WalkLaws
-pub mod StepLaws
+pub mod ReadingLaws
 pub mod Starred

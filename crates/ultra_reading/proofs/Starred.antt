@@ -9,7 +9,8 @@ use Rattle.ultra_format.specs.Places.{placed, occurs, placeCheck}
 use Rattle.ultra_format.specs.Plain.{writtenSize}
 use Rattle.ultra_format.specs.Decoding.{entriesAt, decoded, start, typesBefore}
 use Rattle.ultra_format.specs.Examples.{listedBytes, everyTypeBytes}
-use Rattle.ultra_reading.specs.Reading.{headCheck, boundsCheck, attributeCheck, attributesAnswer, usedLength, readingOf}
+use Rattle.ultra_stepping.specs.Checks.{headCheck, boundsCheck}
+use Rattle.ultra_reading.specs.Reading.{attributeCheck, attributesAnswer, usedLength, readingOf}
 use Rattle.ultra_reading.specs.Cases.{AllHold, cases, otherSides}
 use Rattle.ultra_reading.specs.declared.Reading.the-variants.{Accepted}
 

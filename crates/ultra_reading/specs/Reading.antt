@@ -1,14 +1,12 @@
 -- What reading a buffer answers: the tests of document 01's table, in its order. "In reading and adding, 1 to 4 (3 for the count)
 -- have offset 0 and come first. Then attribute by attribute, 5 to 16 in that order, each with that attribute's start".
 -- Assumes nothing.
-use Prim.Native.Nat.{ℕ, zero, suc, _+_, _%_, _<_, max}
+use Prim.Native.Nat.{ℕ, zero, suc, _+_, _<_, max}
 use mathlib.Core.Path.{_≡_}
-use mathlib.Core.Bool.{not}
 use mathlib.Core.List.{List, [], _∷_}
 use lib.ListN.{getD}
-use lib.Dec.{leb, eqb}
 use Rattle.words.specs.Words.{u32At}
-use Rattle.refusals.specs.Refusals.{unless, firstOf, SHORT, VERSION, COUNT, MISSING, HEADER, SIZE, OVERRUN, TYPE}
+use Rattle.refusals.specs.Refusals.{firstOf}
 use Rattle.refusals.specs.Answers.{orRefused, orRefusedAt}
 use Rattle.ultra_format.specs.Layouts.{roomOf}
 use Rattle.ultra_format.specs.Members.{bodyCheck}
@@ -16,28 +14,10 @@ use Rattle.ultra_format.specs.Places.{placeCheck}
 use Rattle.ultra_format.specs.Decoding.{decoded, start, storedCount, typesBefore}
 use Rattle.refusals.specs.declared.Answer.{Answer}
 use Rattle.refusals.specs.declared.Answer.the-variants.{Done, Refused}
+use Rattle.ultra_stepping.specs.Checks.{headCheck, boundsCheck}
 use Rattle.ultra_reading.specs.declared.Version.{Version}
 use Rattle.ultra_reading.specs.declared.Reading.{Reading}
 use Rattle.ultra_reading.specs.declared.Reading.the-variants as reading
-
--- the head: the first of 1 to 4 that it breaks, or 0, with `fewest` as the lower limit of the count
-unfoldable pub headCheck : ℕ → List ℕ → ℕ
-headCheck fewest b =
-    unless (leb 8 (roomOf b)) SHORT
-    (unless (not (eqb (getD b 0 0) 0)) VERSION
-    (unless (leb (storedCount b) 1024) COUNT
-    (unless (leb fewest (storedCount b)) MISSING
-    0)))
-
--- the first of 5 to 8 that the attribute at `o` breaks, or 0
-unfoldable pub boundsCheck : List ℕ → ℕ → ℕ → ℕ
-boundsCheck b room o =
-    unless (leb (o + 8) room) HEADER
-    (unless (leb 8 (u32At b (o + 4))) SIZE
-    (unless (eqb (u32At b (o + 4) % 8) 0) SIZE
-    (unless (leb (o + u32At b (o + 4)) room) OVERRUN
-    (unless (not (eqb (u32At b o) 0)) TYPE
-    0))))
 
 -- the first of 5 to 16 that the attribute at `o` breaks, after those of the types `before`, or 0
 unfoldable pub attributeCheck : List ℕ → ℕ → List ℕ → ℕ → ℕ

@@ -1,19 +1,15 @@
-// Reading a lent context, and stepping through it.
-mod bounds;
-mod cursor;
-mod head;
-mod place;
+// Reading a lent context. Stepping through it is passed on.
 mod walk;
 
 ghost use mathlib.Core.Path.{_≡_};
 ghost use Rattle.ultra_reading.specs.Reading.{usedLength, readingOf};
-pub use cursor::Cursor;
-pub use cursor::Header;
-pub use cursor::Step;
-pub use head::room;
-pub use place::next_place_check;
 use refusals::Answer;
 use refusals::Refusal;
+pub use ultra_places::next_place_check;
+pub use ultra_stepping::Cursor;
+pub use ultra_stepping::Header;
+pub use ultra_stepping::Step;
+pub use ultra_stepping::room;
 
 pub struct Version {
     pub major: u8,
@@ -30,12 +26,12 @@ pub enum Reading {
 pub fn used_length(buf: &[u8], fewest: u32) -> Answer
     ensures { λ r. ⌜ r ≡ usedLength fewest (now (buf .entry)) ⌝ }
 {
-    let number = head::check(buf, fewest);
+    let number = ultra_stepping::head::check(buf, fewest);
     if number != 0 {
         return Answer::Refused(Refusal::new(number, 0));
     }
     let count = words::load_u32(buf, 4);
-    walk::attributes(buf, head::room(buf), count)
+    walk::attributes(buf, room(buf), count)
 }
 
 // Reads a context.

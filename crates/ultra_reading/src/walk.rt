@@ -4,7 +4,8 @@ ghost use Prim.Native.Nat.{_≤_, max};
 ghost use lib.ListN.{length};
 ghost use Rattle.ultra_format.specs.Places.{nearest, placeCheck};
 ghost use Rattle.ultra_format.specs.Decoding.{typesBefore};
-ghost use Rattle.ultra_reading.specs.Reading.{Clear, highestOf, attributeCheck, attributesAnswer};
+ghost use Rattle.ultra_stepping.specs.Walking.{InBounds};
+ghost use Rattle.ultra_reading.specs.Reading.{highestOf, attributeCheck, attributesAnswer};
 use refusals::Answer;
 use refusals::Refusal;
 
@@ -15,10 +16,10 @@ fn higher(a: u32, b: u32) -> u32
     if a < b { b } else { a }
 }
 
-// The first of 9 to 11, as `place::check`, but with no search for a type above `highest`, the highest before: it did not occur.
-fn place_check(buf: &[u8], room: usize, index: u32, previous: u32, highest: u32, kind: u32) -> u16
-    requires { ⌜ (room ≤ length (now buf)) × (1 ≤ kind) ⌝ }
-    requires { ⌜ Clear (now buf) room index ⌝ }
+// The first of 9 to 11, as `ultra_places::check`, but with no search for a type above `highest`, the highest before: it did not occur.
+fn place_check(buf: &[u8], index: u32, previous: u32, highest: u32, kind: u32) -> u16
+    requires { ⌜ InBounds (now buf) index ⌝ }
+    requires { ⌜ 1 ≤ kind ⌝ }
     requires { ⌜ (previous ≡ nearest (typesBefore (now buf) index)) × (highest ≡ highestOf (typesBefore (now buf) index)) ⌝ }
     ensures { λ r. ⌜ r ≡ placeCheck (typesBefore (now (buf .entry)) index) kind ⌝ }
 {
@@ -29,23 +30,23 @@ fn place_check(buf: &[u8], room: usize, index: u32, previous: u32, highest: u32,
             }
         }
     }
-    crate::place::check(buf, room, index, previous, kind)
+    ultra_places::check(buf, index, previous, kind)
 }
 
 // The first of 5 to 16 that the attribute at `at` breaks, or 0. `index`, `previous` and `highest` are its index, the type just before
 // and the highest type before.
 fn check(buf: &[u8], room: usize, index: u32, previous: u32, highest: u32, at: usize) -> u16
     requires { ⌜ (room ≤ length (now buf)) × (at ≤ 4294967295) ⌝ }
-    requires { ⌜ Clear (now buf) room index ⌝ }
+    requires { ⌜ InBounds (now buf) index ⌝ }
     requires { ⌜ (previous ≡ nearest (typesBefore (now buf) index)) × (highest ≡ highestOf (typesBefore (now buf) index)) ⌝ }
     ensures { λ r. ⌜ r ≡ attributeCheck (now (buf .entry)) room (typesBefore (now (buf .entry)) index) at ⌝ }
 {
-    let bounds = crate::bounds::check(buf, room, at);
+    let bounds = ultra_stepping::bounds::check(buf, room, at);
     if bounds != 0 {
         return bounds;
     }
     let kind = words::load_u32(buf, at);
-    let place = place_check(buf, room, index, previous, highest, kind);
+    let place = place_check(buf, index, previous, highest, kind);
     if place != 0 {
         return place;
     }

@@ -8,7 +8,7 @@ use borrow.Author.Needs.{needs}
 use denote.Ref.{now}
 use Rattle.words.specs.Words.{u32At}
 use Rattle.ultra_format.specs.Decoding.{start, storedType, storedSize, contextOf}
-use Rattle.ultra_reading.proofs.WalkLaws.{start-next}
+use Rattle.ultra_stepping.proofs.WalkLaws.{start-next}
 use Rattle.ultra_locating.specs.Searching.{firstIn, foundStart, ofType}
 use Rattle.ultra_locating.proofs.Located.{Inside, head-inside, inside}
 use Rattle.ultra_locating.proofs.Searches.{searched, search-here, search-next, search-end, search-whole, of-type, of-other}

@@ -7,7 +7,7 @@ use borrow.Author.Needs.{needs}
 use denote.Ref.{now}
 use Rattle.words.specs.Words.{u32At}
 use Rattle.ultra_format.specs.Decoding.{start, storedSize}
-use Rattle.ultra_reading.proofs.WalkLaws.{start-next}
+use Rattle.ultra_stepping.proofs.WalkLaws.{start-next}
 use Rattle.ultra_locating.proofs.Located.{Inside, inside}
 use Rattle.ultra_locating.proofs.start_of.Statement.{statement}
 use Rattle.ultra_locating.proofs.start_of.Tie as tie

@@ -4,7 +4,8 @@ use mathlib.Core.Path.{sym, ap, _∙_}
 use native.Mathlib.Omega.{arith}
 use denote.Ref.{now}
 use Rattle.ultra_reading.specs.Reading.{withVersion, readingOf}
-use Rattle.ultra_reading.proofs.HeadLaws.{HeadHolds, accepted-head}
+use Rattle.ultra_stepping.proofs.HeadLaws.{HeadHolds}
+use Rattle.ultra_reading.proofs.ReadingLaws.{accepted-head}
 use borrow.Author.Needs.{needs}
 use Rattle.ultra_reading.proofs.read.Statement.{statement}
 use Rattle.ultra_reading.proofs.read.Tie as tie

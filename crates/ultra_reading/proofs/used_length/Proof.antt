@@ -4,10 +4,12 @@ use Prim.Native.Nat.{ℕ}
 use mathlib.Core.Path.{_≡_, sym, ap, ap₂, _∙_}
 use Rattle.refusals.specs.Answers.{refusal}
 use Rattle.refusals.specs.declared.Answer.the-variants.{Refused}
-use Rattle.ultra_reading.specs.Reading.{attributesAnswer, headCheck}
+use Rattle.ultra_reading.specs.Reading.{attributesAnswer}
+use Rattle.ultra_stepping.specs.Checks.{headCheck}
 use native.Mathlib.Omega.{arith}
 use denote.Ref.{now}
-use Rattle.ultra_reading.proofs.HeadLaws.{head-holds, head-refuses, head-goes-on}
+use Rattle.ultra_stepping.proofs.HeadLaws.{head-holds}
+use Rattle.ultra_reading.proofs.ReadingLaws.{head-refuses, head-goes-on}
 use borrow.Author.Needs.{needs}
 use Rattle.ultra_reading.proofs.used_length.Statement.{statement}
 use Rattle.ultra_reading.proofs.used_length.Tie as tie

@@ -10,7 +10,7 @@ use lib.ListN.{length}
 use Rattle.ultra_format.specs.Layouts.{roomOf}
 use Rattle.ultra_format.specs.Places.{placeCheck}
 use Rattle.ultra_format.specs.Decoding.{storedCount, typesBefore}
-use Rattle.ultra_reading.proofs.PlaceLaws.{length-types}
+use Rattle.ultra_places.proofs.PlaceLaws.{length-types}
 use Rattle.ultra_building.proofs.Placements.{Read, was-read, stop-full, stop-place, stop-given, stop-room, pass}
 use Rattle.ultra_building.proofs.place.check.Statement.{statement}
 use Rattle.ultra_building.proofs.place.check.Tie as tie
@@ -34,8 +34,7 @@ room-requires c κs = search needs
 next-place-check-requires : tie.Need-next-place-check-requires
 next-place-check-requires c κs =
     let s = c .before .before .before .before in
-    let b = now (s .args .buf) in
-    (omega (arith, c .room .ensures), (λ j l. rw (c .room .ensures) (read s .clear j (omega (arith, l, c .before .before .load-u32 .ensures))), s .pre .1))
+    (λ j l. read s .bounds j (omega (arith, l, c .before .before .load-u32 .ensures)), s .pre .1)
 
 -- the place's number is of the stored count
 number : (c : tie.After-next-place-check)

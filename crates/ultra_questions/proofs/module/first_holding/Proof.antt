@@ -9,7 +9,7 @@ use denote.Ref.{now}
 use Rattle.words.specs.Words.{u32At}
 use Rattle.ultra_format.specs.Members.{sizeSuits}
 use Rattle.ultra_format.specs.Decoding.{start, storedSize, storedAttribute, contextOf}
-use Rattle.ultra_reading.proofs.WalkLaws.{start-next}
+use Rattle.ultra_stepping.proofs.WalkLaws.{start-next}
 use Rattle.ultra_locating.specs.Searching.{firstIn, foundStart}
 use Rattle.ultra_questions.specs.ModuleQuestion.{holding}
 use Rattle.ultra_locating.proofs.Located.{Inside, head-inside, inside, body-at}

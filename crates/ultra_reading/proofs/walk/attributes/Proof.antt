@@ -1,4 +1,4 @@
--- `ultra_reading::walk::attributes` meets its contract. The invariant: `at` is where attribute `i` starts, none before it breaks a rule,
+-- `ultra_reading::walk::attributes` meets its contract. The invariant: `at` is where attribute `i` starts, none before it breaks 5 to 8,
 -- and the answer from it on is the answer from the first on.
 -- Assumes nothing.
 use Prim.Native.Nat.{_-_, _≤_}
@@ -9,16 +9,18 @@ use borrow.Author.Needs.{needs}
 use borrow.Author.Count.{below-none, below-more}
 use denote.Ref.{now}
 use Rattle.ultra_format.specs.Places.{nearest}
-use Rattle.ultra_format.specs.Decoding.{start, storedSize, typesBefore}
-use Rattle.ultra_reading.specs.Reading.{checkOf, Clear, highestOf, attributesAnswer}
-use Rattle.ultra_reading.proofs.BoundsLaws.{BoundsHold}
-use Rattle.ultra_reading.proofs.WalkLaws.{attribute-bounds, start-next, nearest-next, highest-next, walk-refuse, walk-next, walk-end}
+use Rattle.ultra_format.specs.Decoding.{start, typesBefore}
+use Rattle.ultra_stepping.specs.Walking.{InBounds}
+use Rattle.ultra_stepping.proofs.WalkLaws.{start-first, Reached, reached, in-larger}
+use Rattle.ultra_places.proofs.PlaceLaws.{nearest-next}
+use Rattle.ultra_reading.specs.Reading.{checkOf, highestOf, attributesAnswer}
+use Rattle.ultra_reading.proofs.ReadingLaws.{attribute-in-bounds, highest-next, walk-refuse, walk-next, walk-end}
 use Rattle.ultra_reading.proofs.walk.attributes.Statement.{statement}
 use Rattle.ultra_reading.proofs.walk.attributes.Tie as tie
 
 abbrev Inv-loop : tie.InvT-loop
 Inv-loop buf room count at₀ previous₀ highest₀ i₀ at previous highest i =
-    (at ≡ start buf i) × (previous ≡ nearest (typesBefore buf i)) × (highest ≡ highestOf (typesBefore buf i)) × (i ≤ count) × (at ≤ room) × Clear buf room i
+    (at ≡ start buf i) × (previous ≡ nearest (typesBefore buf i)) × (highest ≡ highestOf (typesBefore buf i)) × (i ≤ count) × (at ≤ room) × InBounds buf i
     × (attributesAnswer buf room i (count - i) ≡ attributesAnswer buf room 0 count)
 
 abbrev μ-loop : tie.MeasureT-loop
@@ -29,12 +31,12 @@ fine : (c : tie.Else1 Inv-loop μ-loop) → checkOf (now (c .before .before .bef
 fine c = cc
 
 here : (c : tie.Else1 Inv-loop μ-loop)
-    → BoundsHold (now (c .before .before .before .before .before .args .buf)) (c .before .before .before .before .before .args .room) (start (now (c .before .before .before .before .before .args .buf)) (c .before .before .before .loop .i))
-here c = attribute-bounds _ _ _ _ (fine c)
+    → Reached (now (c .before .before .before .before .before .args .buf)) (c .before .before .before .before .before .args .room) (c .before .before .before .loop .i) (c .before .before .before .loop .at)
+here c = let l = c .before .before .before in reached _ _ (l .loop .i) _ (l .loop .inv .0) (attribute-in-bounds _ _ _ _ (fine c))
 
 loop-holds : tie.Need-loop-holds Inv-loop μ-loop
-unfolding start typesBefore highestOf
-loop-holds c = (refl, refl, refl, search needs, search needs, below-none _, rw sub-zero)
+unfolding typesBefore highestOf
+loop-holds c = (start-first _, refl, refl, search needs, search needs, below-none _, rw sub-zero)
 
 check-requires : tie.Need-check-requires Inv-loop μ-loop
 check-requires c κs = ((search needs, search needs), (c .before .loop .inv .5, (search needs, search needs)))
@@ -78,14 +80,13 @@ loop-again : tie.Need-loop-again Inv-loop μ-loop
 loop-again c =
     let f = c .before .before .before in
     let a = f .before .before .before .before .before .args in
-    let l = f .before .before .before .loop in
-    let s : c .load-u322 .result ≡ storedSize (now (a .buf)) (l .i) = cc in (
-      cc (start-next (now (a .buf)) (l .i)),
-      cc (nearest-next (now (a .buf)) (l .i)),
-      cc (highest-next (now (a .buf)) (l .i)),
+    let l = f .before .before .before .loop in (
+      omega (arith, here f),
+      cc (nearest-next (now (a .buf)) (l .i), here f .type-is),
+      cc (highest-next (now (a .buf)) (l .i), here f .type-is),
       search needs,
       omega (arith, here f),
-      below-more _ _ (l .inv .5) (fine f),
+      below-more _ _ (l .inv .5) (in-larger _ _ _ _ (omega arith) (attribute-in-bounds _ _ _ _ (fine f))),
       cc (walk-next (now (a .buf)) (a .room) (l .i) (a .count) (f .before .before .loop-test .taken) (fine f)),
     )
 

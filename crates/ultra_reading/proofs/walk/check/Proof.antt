@@ -6,11 +6,11 @@ use Rattle.words.specs.Words.{u32At}
 use Rattle.ultra_format.specs.Members.{bodyCheck}
 use Rattle.ultra_format.specs.Places.{placeCheck}
 use Rattle.ultra_format.specs.Decoding.{decoded, typesBefore}
-use Rattle.ultra_reading.specs.Reading.{boundsCheck}
+use Rattle.ultra_stepping.specs.Checks.{boundsCheck}
 use native.Mathlib.Omega.{arith}
 use denote.Ref.{now}
-use Rattle.ultra_reading.proofs.BoundsLaws.{BoundsHold, bounds-hold}
-use Rattle.ultra_reading.proofs.WalkLaws.{stop-bounds, stop-placing, only-body}
+use Rattle.ultra_stepping.proofs.BoundsLaws.{BoundsHold, bounds-hold}
+use Rattle.ultra_reading.proofs.ReadingLaws.{stop-bounds, stop-placing, only-body}
 use borrow.Author.Needs.{needs}
 use Rattle.ultra_reading.proofs.walk.check.Statement.{statement}
 use Rattle.ultra_reading.proofs.walk.check.Tie as tie
@@ -37,7 +37,7 @@ load-u32-requires : tie.Need-load-u32-requires
 load-u32-requires c κs = omega (arith, here c)
 
 place-check-requires : tie.Need-place-check-requires
-place-check-requires c κs = ((search needs, omega (arith, here (c .before))), (search needs, search needs))
+place-check-requires c κs = (search needs, (omega (arith, here (c .before)), search needs))
 
 returns-2 : tie.Need-returns-2
 returns-2 c =

@@ -1,7 +1,8 @@
 -- `ultra_reading::walk::place_check` meets its contract: a type above those before is new.
 -- Assumes nothing.
 use native.Mathlib.Omega.{arith}
-use Rattle.ultra_reading.proofs.PlaceLaws.{length-types, pass-above}
+use Rattle.ultra_places.proofs.PlaceLaws.{length-types}
+use Rattle.ultra_reading.proofs.ReadingLaws.{pass-above}
 use borrow.Author.Needs.{needs}
 use Rattle.ultra_reading.proofs.walk.place_check.Statement.{statement}
 use Rattle.ultra_reading.proofs.walk.place_check.Tie as tie

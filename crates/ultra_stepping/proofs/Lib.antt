@@ -1,0 +1,4 @@
+pub mod HeadLaws
+pub mod BoundsLaws
+pub mod StepLaws
+pub mod WalkLaws
