@@ -1,16 +1,19 @@
 -- Laws of an accepted buffer: its head and attributes lie within it, and their sizes suit the table.
 -- Assumes nothing.
-use Prim.Native.Nat.{ℕ, zero, suc, _+_, _≤_, _<_}
+use Prim.Native.Nat.{ℕ, _+_, _≤_, _<_}
 use mathlib.Core.Path.{_≡_, sym, _∙_}
 use mathlib.Core.Bool.{true}
 use mathlib.Core.List.{List}
 use native.Mathlib.Omega.{arith}
 use lib.ListN.{length}
+use Rattle.words.specs.Words.{u32At}
 use Rattle.ultra_format.specs.Contexts.{used}
+use Rattle.ultra_format.specs.Layouts.{roomOf}
 use Rattle.ultra_format.specs.Members.{sizeSuits}
-use Rattle.ultra_format.specs.Decoding.{decoded, start, storedType, storedSize, storedCount, storedAttribute, contextOf}
+use Rattle.ultra_format.specs.Decoding.{decoded, start, storedSize, storedCount, storedAttribute, contextOf}
 use Rattle.ultra_format.proofs.Decoded.{used-decoded}
-use Rattle.ultra_acceptance.proofs.Walked.{Accepted, accepted}
+use Rattle.ultra_acceptance.proofs.Walked.{Accepted, accepted, walk-reached}
+use Rattle.ultra_stepping.proofs.WalkLaws.{Reached}
 use Rattle.ultra_locating.specs.Passing.{Accepts}
 
 pub record HeadInside (b : List ℕ) : Type 0 where
@@ -22,6 +25,12 @@ pub record Inside (b : List ℕ) (i : ℕ) : Type 0 where
   pub within : start b i + storedSize b i ≤ length b
   pub small : start b i + storedSize b i ≤ 65536
   pub suits : sizeSuits (storedSize b i) (storedAttribute b i .body) ≡ true
+
+-- attribute i, where its start is known as `at`: what is loaded there is its type and size
+pub record Loaded (b : List ℕ) (i at : ℕ) : Type 0 where
+  pub reached : Reached b (roomOf b) i at
+  pub body-is : decoded b at (u32At b (at + 4)) (u32At b at) ≡ storedAttribute b i .body
+  pub suits : sizeSuits (u32At b (at + 4)) (decoded b at (u32At b (at + 4)) (u32At b at)) ≡ true
 
 module _ (b : List ℕ) (a : Accepts b) where
   pub reading : Accepted 2 b (a .0)
@@ -41,12 +50,5 @@ module _ (b : List ℕ) (a : Accepts b) where
       let w = k .within in
       record { least = k .least; within = omega arith; small = omega arith; suits = p .body .suits }
 
--- the body of attribute i, where its start, size and type are known by another name
-pub body-at : (b : List ℕ) (i o s t : ℕ) → o ≡ start b i → s ≡ storedSize b i → t ≡ storedType b i → decoded b o s t ≡ storedAttribute b i .body
-body-at b i o s t e f g = rw (e, f, g)
-
--- no attribute starts in the head
-pub after-head : (b : List ℕ) (i : ℕ) → 8 ≤ start b i
-unfolding start
-after-head b zero = omega arith
-after-head b (suc i) = let h = after-head b i in omega arith
+  pub loaded : (i at : ℕ) → i < storedCount b → at ≡ start b i → Loaded b i at
+  loaded i at h e = record { reached = walk-reached 2 b (a .0) reading i at h e; body-is = rw e; suits = rw e (inside i h .suits) }

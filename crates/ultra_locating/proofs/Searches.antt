@@ -7,13 +7,17 @@ use mathlib.Core.List.{List}
 use native.Mathlib.Omega.{arith}
 use native.Mathlib.Nat.{zero-add}
 use native.Mathlib.Numerals.{add-one}
-use borrow.Author.Tests.{eqb-true, eq-eqb, ne-eqb}
+use lib.Dec.{eqb}
+use borrow.Author.Tests.{eqb-true, eqb-false}
+use Rattle.words.specs.Words.{u32At}
 use Rattle.ultra_format.specs.Contexts.{Body, typeOf}
 use Rattle.ultra_format.specs.Decoding.{pick, start, storedType, storedSize, storedCount, storedAttribute, attributesFrom, contextOf}
 use Rattle.ultra_format.proofs.Bodies.{decoded-type}
+use Rattle.ultra_stepping.specs.Walking.{firstOfType}
+use Rattle.ultra_stepping.proofs.WalkLaws.{after-head}
 use Rattle.ultra_locating.specs.Searching.{Found, Found.none, Found.found, first, firstIn, foundStart, ofType}
 use Rattle.ultra_locating.specs.Passing.{Accepts}
-use Rattle.ultra_locating.proofs.Located.{Inside, inside, after-head}
+use Rattle.ultra_locating.proofs.Located.{Loaded, loaded}
 
 module _ (test : Body → Bool) (b : List ℕ) where
   -- the search among n attributes from attribute i on
@@ -79,26 +83,45 @@ module _ (test : Body → Bool) (b : List ℕ) where
 
 -- ---- the test for a type
 module _ (b : List ℕ) (i k : ℕ) where
-  type-stored : typeOf (storedAttribute b i .body) ≡ storedType b i
+  pub type-stored : typeOf (storedAttribute b i .body) ≡ storedType b i
   type-stored = decoded-type b (start b i) (storedSize b i) (storedType b i)
-
-  pub of-type : storedType b i ≡ k → ofType k (storedAttribute b i .body) ≡ true
-  of-type e = eq-eqb _ k (type-stored ∙ e)
-
-  pub of-other : (storedType b i ≡ k → ⊥) → ofType k (storedAttribute b i .body) ≡ false
-  of-other n = ne-eqb _ k (λ e. n (sym type-stored ∙ e))
 
   pub type-said : ofType k (storedAttribute b i .body) ≡ true → storedType b i ≡ k
   type-said e = sym type-stored ∙ eqb-true _ k e
+
+-- ---- the walk for a type finds where the first attribute of that type starts
+module _ (b : List ℕ) (k : ℕ) where
+  picked : (o : ℕ) (i : ℕ) (rest : Found) (t : Bool) → pick t o (foundStart rest) ≡ foundStart (pick t (found o (storedAttribute b i)) rest)
+  picked o i rest true = refl
+  picked o i rest false = refl
+
+  walked : (i n : ℕ) → firstOfType b k i n ≡ foundStart (searched (ofType k) b i n)
+  unfolding firstOfType attributesFrom first start
+  walked i zero = refl
+  walked i (suc n) = rw (type-stored b i k, walked (suc i) n) (picked (start b i) i (searched (ofType k) b (suc i) n) (eqb (storedType b i) k))
+
+  pub walk-found : firstOfType b k 0 (storedCount b) ≡ foundStart (firstIn (ofType k) (contextOf b))
+  unfolding contextOf start
+  walk-found = walked 0 (storedCount b)
 
 -- ---- the first attribute of a type, at `o`, where there is one
 pub record FirstOfType (b : List ℕ) (k o : ℕ) : Type 0 where
   pub found : FoundAt (ofType k) b (storedCount b) (firstIn (ofType k) (contextOf b))
   pub at : o ≡ start b (found .index)
-  pub type : storedType b (found .index) ≡ k
-  pub inside : Inside b (found .index)
+  pub type-is : u32At b o ≡ k
+  pub here : Loaded b (found .index) o
 
 pub first-of : (b : List ℕ) (k o : ℕ) → Accepts b → o ≡ foundStart (firstIn (ofType k) (contextOf b)) → (o ≡ 0 → ⊥) → FirstOfType b k o
 first-of b k o a e n =
     let f = found-at (ofType k) b (λ z. n (e ∙ z)) in
-    record { found = f; at = e ∙ ap foundStart (f .is); type = type-said b (f .index) k (f .meets); inside = inside b a (f .index) (f .below) }
+    let q = e ∙ ap foundStart (f .is) in
+    let h = loaded b a (f .index) o (f .below) q in
+    record { found = f; at = q; type-is = h .reached .type-is ∙ type-said b (f .index) k (f .meets); here = h }
+
+-- no start is past the room
+pub first-small : (b : List ℕ) (k : ℕ) → Accepts b → foundStart (firstIn (ofType k) (contextOf b)) ≤ 65536
+first-small b k a = go (eqb (foundStart (firstIn (ofType k) (contextOf b))) 0) refl
+  where
+    go : (t : Bool) → eqb (foundStart (firstIn (ofType k) (contextOf b))) 0 ≡ t → foundStart (firstIn (ofType k) (contextOf b)) ≤ 65536
+    go true e = omega (arith, eqb-true (foundStart (firstIn (ofType k) (contextOf b))) 0 e)
+    go false e = omega (arith, first-of b k _ a refl (eqb-false (foundStart (firstIn (ofType k) (contextOf b))) 0 e) .here .reached)

@@ -58,7 +58,7 @@ map : (c : tie.Else1) → FirstOfType (now (c .before .before .before .before .b
 map c = first-of _ 3 _ (accepts (c .before .before)) (c .before .first-of-type .ensures) (c .if1 .left)
 
 entries-at-requires : tie.Need-entries-at-requires
-entries-at-requires c κs = let m = map c in let w = m .inside in (omega (arith, m .at), rw (m .at) (w .least))
+entries-at-requires c κs = let w = map c .here .reached in (omega (arith, w), w .least)
 
 cast-count : tie.Need-cast-count
 cast-count c = search needs

@@ -1,16 +1,12 @@
 -- `ultra_questions::line::command_line_part` meets its contract.
 -- Assumes nothing.
-use Prim.Native.Nat.{ℕ, _+_}
 use mathlib.Core.Path.{_≡_, sym, ap, ap₂, _∙_}
 use native.Mathlib.Omega.{arith}
 use denote.Ref.{now}
-use Rattle.words.specs.Words.{u32At}
-use Rattle.ultra_format.specs.Members.{sizeSuits}
-use Rattle.ultra_format.specs.Decoding.{decoded, storedSize, storedAttribute}
+use Rattle.ultra_format.specs.Decoding.{decoded, storedAttribute}
 use Rattle.ultra_locating.specs.Passing.{Accepts}
 use Rattle.ultra_questions.specs.Parts.{bodyPart}
 use Rattle.ultra_locating.specs.Searching.{ofType}
-use Rattle.ultra_locating.proofs.Located.{body-at}
 use Rattle.ultra_locating.proofs.Searches.{none-at, FirstOfType, first-of}
 use Rattle.ultra_questions.proofs.LineLaws.{line-passed, line-found}
 use borrow.Author.Needs.{needs}
@@ -63,22 +59,20 @@ line : (c : tie.Else1) → FirstOfType (now (c .before .before .before .before .
 line c = first-of _ 5 _ (accepts (c .before .before)) (c .before .first-of-type .ensures) (c .if1 .left)
 
 load-u32-requires : tie.Need-load-u32-requires
-load-u32-requires c κs = let l = line c in omega (arith, l .at, l .inside)
-
-size : (c : tie.After-load-u32) → c .load-u32 .result ≡ storedSize (now (c .before .before .before .before .before .before .before .args .buf)) (line (c .before) .found .index)
-size c = c .load-u32 .ensures ∙ ap (λ (o : ℕ). u32At (now (c .before .before .before .before .before .before .before .args .buf)) (o + 4)) (line (c .before) .at)
+load-u32-requires c κs = omega (arith, line c .here .reached)
 
 -- its body is that of a command line
 body : (c : tie.After-load-u32)
-    → decoded (now (c .before .before .before .before .before .before .before .args .buf)) (c .before .before .first-of-type .result) (c .load-u32 .result) 5 ≡ storedAttribute (now (c .before .before .before .before .before .before .before .args .buf)) (line (c .before) .found .index) .body
-body c = let l = line (c .before) in body-at _ (l .found .index) _ _ 5 (l .at) (size c) (sym (l .type))
+    → let b = now (c .before .before .before .before .before .before .before .args .buf) in
+    decoded b (c .before .before .first-of-type .result) (c .load-u32 .result) 5 ≡ storedAttribute b (line (c .before) .found .index) .body
+body c = let l = line (c .before) in rw (c .load-u32 .ensures) (rw (l .type-is) at (l .here .body-is))
 
 of-body-requires : tie.Need-of-body-requires
 of-body-requires c κs =
-    let e = line (c .before) .at in
-    let z = size c in
-    let w = line (c .before) .inside in
-    ((omega arith, omega arith), ap₂ sizeSuits z (body c) ∙ w .suits)
+    let l = line (c .before) in
+    let w = l .here .reached in
+    let z = c .load-u32 .ensures in
+    ((omega arith, omega arith), rw z (rw (l .type-is) at (l .here .suits)))
 
 returns-3 : tie.Need-returns-3
 returns-3 c =
