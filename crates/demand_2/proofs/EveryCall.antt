@@ -20,7 +20,7 @@ use Rattle.ultra_format.specs.Members.{every, sizeSuits, kernelValues, moduleVa
 use Rattle.ultra_format.specs.Places.{placed, occurs, placeCheck}
 use Rattle.ultra_format.specs.Plain.{writtenSize, Plain}
 use Rattle.ultra_format.specs.Records.{trimmed}
-use Rattle.ultra_questions.specs.MapQuestion.{numbers}
+use Rattle.ultra_map_question.specs.MapQuestion.{numbers}
 use Rattle.ultra_format.specs.Examples.{zeros, sixTypes, sixTypesBytes}
 use Rattle.ultra_format.specs.Additions.{Addition, Addition.addPlatform, Addition.addCommandLine, attributeGiven, entriesGiven, bodyGiven, givenCheck}
 use Rattle.refusals.proofs.Chains.{both-hold}

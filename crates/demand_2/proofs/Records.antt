@@ -29,8 +29,8 @@ use Rattle.ultra_acceptance.proofs.Walked.{body-passes}
 use Rattle.ultra_questions.specs.Parts.{partBytes}
 use Rattle.ultra_questions.specs.AttributeQuestion.{answered}
 use Rattle.words.specs.Words.{numbersAt}
-use Rattle.ultra_questions.specs.MapQuestion.{numbers}
-use Rattle.ultra_questions.proofs.MapLaws.{numbers-stored}
+use Rattle.ultra_map_question.specs.MapQuestion.{numbers}
+use Rattle.ultra_map_question.proofs.MapLaws.{numbers-stored}
 use Rattle.demand_2.specs.Arguments.{WideTyped, NarrowTyped, NumbersTyped, ArrayTyped, AdditionTyped}
 use Rattle.demand_2.specs.Model.{giving}
 use Rattle.demand_2.specs.Demand2.{recordBack}

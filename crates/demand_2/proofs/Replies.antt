@@ -39,15 +39,15 @@ use Rattle.ultra_acceptance.specs.Acceptance.{HoldsContext}
 use Rattle.ultra_acceptance.proofs.Walked.{Accepted, accepted}
 use Rattle.ultra_acceptance.proofs.Acceptance.{complete, rehoused, held-reading}
 use Rattle.ultra_questions.specs.Parts.{noPart}
-use Rattle.ultra_questions.specs.ByContext.{ByContext}
-use Rattle.ultra_questions.specs.QuestionRefusals.{PassesOn}
+use Rattle.ultra_question_statements.specs.ByContext.{ByContext}
+use Rattle.ultra_question_statements.specs.QuestionRefusals.{PassesOn}
 use Rattle.ultra_questions.specs.declared.attributes.AttributeAnswer.{AttributeAnswer}
 use Rattle.ultra_questions.specs.AttributeQuestion.{attributeAnswer}
-use Rattle.ultra_questions.specs.MapQuestion.{mapCopiedBytes, overBytes}
+use Rattle.ultra_map_question.specs.MapQuestion.{mapCopiedBytes, overBytes}
 use Rattle.ultra_questions.specs.CommandLineQuestion.{commandLinePart}
 use Rattle.ultra_listing.specs.Listing.{contextLines, refusedLines, linesOf, textListed, listed}
-use Rattle.ultra_questions.proofs.ByContext.{questions-by-context}
-use Rattle.ultra_questions.proofs.QuestionRefusals.{refusals-pass-on}
+use Rattle.ultra_question_statements.proofs.ByContext.{questions-by-context}
+use Rattle.ultra_question_statements.proofs.QuestionRefusals.{refusals-pass-on}
 use Rattle.ultra_adding.specs.Adding.{addedAt}
 use Rattle.demand_3.specs.Demand3.{ReadingIs}
 use Rattle.demand_3.proofs.Demand3.{demand-3}

@@ -12,7 +12,7 @@ use Rattle.ultra_format.specs.Plain.{Plain}
 use Rattle.ultra_format.specs.Examples.{listed, listedBytes, sixTypes, sixTypesBytes}
 use Rattle.ultra_format.specs.Additions.{Addition}
 use Rattle.ultra_format.proofs.Witness.{listed-meets, listed-opens, listed-plain, six-types-meets, six-types-opens, six-types-plain}
-use Rattle.ultra_questions.specs.MapQuestion.{numbers}
+use Rattle.ultra_map_question.specs.MapQuestion.{numbers}
 use Rattle.ultra_acceptance.specs.Acceptance.{HoldsContext}
 use Rattle.demand_2.specs.Calls.{runWrite}
 use Rattle.demand_2.specs.CallsFromC.{after}

@@ -18,7 +18,7 @@ use Rattle.ultra_stepping.specs.declared.cursor.Step.{Step}
 use Rattle.ultra_questions.specs.declared.part.Part.{Part}
 use Rattle.ultra_questions.specs.declared.attributes.AttributeAnswer.{AttributeAnswer}
 use Rattle.ultra_questions.specs.AttributeQuestion.{attributeStart, attributeAnswer}
-use Rattle.ultra_questions.specs.MapQuestion.{mapCopied, mapCopiedBytes}
+use Rattle.ultra_map_question.specs.MapQuestion.{mapCopied, mapCopiedBytes}
 use Rattle.ultra_questions.specs.CommandLineQuestion.{commandLinePart}
 use Rattle.ultra_questions.specs.ModuleQuestion.{moduleHolding}
 use Rattle.ultra_adding.specs.Adding.{added, addedMembers}

@@ -9,7 +9,7 @@ use Rattle.ultra_format.specs.Additions.{Addition.addCommandLine, Addition.addF
 use Rattle.ultra_reading.specs.Reading.{readingOf}
 use Rattle.ultra_stepping.specs.Stepping.{cursorAt, stepOf}
 use Rattle.ultra_questions.specs.AttributeQuestion.{attributeStart}
-use Rattle.ultra_questions.specs.MapQuestion.{mapCopiedBytes}
+use Rattle.ultra_map_question.specs.MapQuestion.{mapCopiedBytes}
 use Rattle.ultra_questions.specs.CommandLineQuestion.{commandLinePart}
 use Rattle.ultra_questions.specs.ModuleQuestion.{moduleHolding}
 use Rattle.ultra_adding.specs.Adding.{addedMembers}

@@ -30,7 +30,7 @@ use Rattle.ultra_stepping.specs.declared.cursor.Step.the-variants as stepping
 use Rattle.ultra_acceptance.specs.Acceptance.{versionIn}
 use Rattle.ultra_questions.specs.Parts.{noPart, bodyPart, partBytes}
 use Rattle.ultra_questions.specs.AttributeQuestion.{unanswered, startOrCount, withMembers}
-use Rattle.ultra_questions.specs.MapQuestion.{numbers, mapIn, overBytes}
+use Rattle.ultra_map_question.specs.MapQuestion.{numbers, mapIn, overBytes}
 use Rattle.ultra_questions.specs.CommandLineQuestion.{commandLineIn, textIn}
 use Rattle.ultra_questions.specs.ModuleQuestion.{moduleIn}
 use Rattle.ultra_appending.specs.Appending.{appendCheck}

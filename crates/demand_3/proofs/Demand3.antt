@@ -19,8 +19,8 @@ use Rattle.ultra_questions.specs.declared.attributes.AttributeAnswer.{Attribute
 use Rattle.ultra_questions.specs.Parts.{PartOf, LiesAt, bodyPart, partBytes}
 use Rattle.ultra_questions.specs.AttributeQuestion.{answered, unanswered, startOrCount, withMembers, attributeAnswer, PartHandedBack}
 use Rattle.demand_3.specs.Demand3.{ReadingIs, SameReading, Demand3}
-use Rattle.ultra_questions.proofs.PartCells.{part-bytes, slice-bytes, slice-empty}
-use Rattle.ultra_questions.proofs.ByContext.{questions-by-context}
+use Rattle.ultra_question_statements.proofs.PartCells.{part-bytes, slice-bytes, slice-empty}
+use Rattle.ultra_question_statements.proofs.ByContext.{questions-by-context}
 use Rattle.demand_3.proofs.Faithful.{determined}
 
 -- ---- the answers, by the context that the buffer holds

@@ -11,10 +11,10 @@ use Rattle.ultra_stepping.specs.Checks.{headCheck, boundsCheck}
 use Rattle.ultra_reading.specs.Reading.{attributeCheck, attributesAnswer, usedLength, readingOf}
 use Rattle.ultra_stepping.specs.Stepping.{cursorCheck, stepOf}
 use Rattle.ultra_questions.specs.Parts.{bodyPart}
-use Rattle.ultra_questions.specs.Searching.{first}
+use Rattle.ultra_locating.specs.Searching.{first}
 use Rattle.ultra_questions.specs.AttributeQuestion.{attributeStart}
 use Rattle.ultra_questions.specs.CommandLineQuestion.{commandLinePart}
-use Rattle.ultra_questions.specs.MapQuestion.{numbers, mapCopied, mapCopiedBytes}
+use Rattle.ultra_map_question.specs.MapQuestion.{numbers, mapCopied, mapCopiedBytes}
 use Rattle.address_ranges.specs.Ranges.{covers}
 use Rattle.ultra_questions.specs.ModuleQuestion.{moduleHolding}
 use Rattle.ultra.specs.Examples.{Examples}

@@ -13,7 +13,7 @@ use Rattle.ultra_reading.specs.Reading.{readingOf}
 use Rattle.ultra_stepping.specs.Stepping.{cursorAt, stepOf}
 use Rattle.ultra_questions.specs.AttributeQuestion.{attributeStart}
 use Rattle.ultra_questions.specs.CommandLineQuestion.{commandLinePart}
-use Rattle.ultra_questions.specs.MapQuestion.{mapCopiedBytes}
+use Rattle.ultra_map_question.specs.MapQuestion.{mapCopiedBytes}
 use Rattle.ultra_questions.specs.ModuleQuestion.{moduleHolding}
 use Rattle.ultra.specs.Crossing.{answerCrossed, stepCrossed, readingCrossed, partCrossed, crossed}
 

@@ -2,7 +2,7 @@
 ghost use mathlib.Core.Path.{_≡_};
 ghost use Rattle.ultra_questions.specs.AttributeQuestion.{attributeStart};
 ghost use Rattle.ultra_questions.specs.CommandLineQuestion.{commandLinePart};
-ghost use Rattle.ultra_questions.specs.MapQuestion.{mapCopiedBytes};
+ghost use Rattle.ultra_map_question.specs.MapQuestion.{mapCopiedBytes};
 ghost use Rattle.ultra_questions.specs.ModuleQuestion.{moduleHolding};
 ghost use Rattle.ultra.specs.Crossing.{answerCrossed, partCrossed, crossed};
 use crate::answers::of_answer;

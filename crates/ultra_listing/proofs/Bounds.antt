@@ -22,8 +22,8 @@ use Rattle.refusals.specs.declared.Refusal.{Refusal}
 use Rattle.refusals.specs.declared.Answer.{Answer}
 use Rattle.refusals.specs.declared.Answer.the-variants.{Done, Refused}
 use Rattle.ultra_reading.specs.Reading.{usedLength}
-use Rattle.ultra_questions.specs.Passing.{Accepts}
-use Rattle.ultra_questions.proofs.Located.{reading, inside}
+use Rattle.ultra_locating.specs.Passing.{Accepts}
+use Rattle.ultra_locating.proofs.Located.{reading, inside}
 use Rattle.ultra_listing.specs.Listing.{commas, dotted, textual, member, guidLines, rangeLines, platformLines, kernelLines, bodyLines, attributesLines, contextLines, refusedLines, linesWhen, linesOf, listing, ListingFits}
 use Rattle.ultra_listing.proofs.LineLaws.{length-entries, context-lines}
 

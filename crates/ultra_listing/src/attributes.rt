@@ -7,7 +7,7 @@ ghost use Rattle.key_value_text.specs.Output.{puts};
 ghost use Rattle.key_value_text.specs.Lines.{linesBytes};
 ghost use Rattle.ultra_format.specs.Members.{sizeSuits};
 ghost use Rattle.ultra_format.specs.Decoding.{decoded, storedCount, attributesFrom};
-ghost use Rattle.ultra_questions.specs.Passing.{Accepts};
+ghost use Rattle.ultra_locating.specs.Passing.{Accepts};
 ghost use Rattle.ultra_listing.specs.Listing.{bodyLines, attributesLines};
 
 // The attribute of type `kind` in the `size` bytes from `at` on.

@@ -4,7 +4,7 @@ ghost use Rattle.key_value_text.specs.Output.{puts};
 ghost use Rattle.key_value_text.specs.Lines.{linesBytes};
 ghost use Rattle.ultra_format.specs.Contexts.{used as used·of};
 ghost use Rattle.ultra_format.specs.Decoding.{contextOf};
-ghost use Rattle.ultra_questions.specs.Passing.{Accepts};
+ghost use Rattle.ultra_locating.specs.Passing.{Accepts};
 ghost use Rattle.ultra_listing.specs.Listing.{contextLines, refusedLines};
 use crate::numbers::one;
 use crate::numbers::two;

@@ -22,10 +22,10 @@ use Rattle.ultra_format.proofs.Decoded.{count-decoded, start-decoded, at-decode
 use Rattle.ultra_reading.specs.Reading.{usedLength}
 use Rattle.ultra_questions.specs.declared.part.Part.{Part}
 use Rattle.ultra_questions.specs.declared.attributes.AttributeAnswer.{AttributeAnswer}
-use Rattle.ultra_questions.specs.Passing.{ifAccepted, Accepts}
+use Rattle.ultra_locating.specs.Passing.{ifAccepted, Accepts}
 use Rattle.ultra_questions.specs.Parts.{bodyPart}
 use Rattle.ultra_questions.specs.AttributeQuestion.{answered, unanswered, startOrCount, withMembers, attributeStart, attributeAnswer}
-use Rattle.ultra_questions.proofs.Located.{inside, used-is}
+use Rattle.ultra_locating.proofs.Located.{inside, used-is}
 use Rattle.ultra_questions.proofs.BodyLaws.{part-within}
 
 -- ---- the start

@@ -1,16 +1,4 @@
-pub mod Located
-pub mod Searches
 pub mod BodyLaws
 pub mod AttributeLaws
-pub mod MapLaws
-pub mod MapBytes
 pub mod LineLaws
 pub mod ModuleLaws
-pub mod PartCells
-pub mod ByContext
-pub mod FirstByIndex
-pub mod QuestionRefusals
-pub mod ByIndex
-pub mod MapAsBytes
-pub mod EveryBuffer
-pub mod Witness

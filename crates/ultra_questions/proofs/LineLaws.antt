@@ -14,12 +14,12 @@ use Rattle.refusals.specs.declared.Answer.{Answer}
 use Rattle.refusals.specs.declared.Answer.the-variants.{Done, Refused}
 use Rattle.ultra_reading.specs.Reading.{usedLength}
 use Rattle.ultra_questions.specs.declared.part.Part.{Part}
-use Rattle.ultra_questions.specs.Passing.{ifAccepted}
+use Rattle.ultra_locating.specs.Passing.{ifAccepted}
 use Rattle.ultra_questions.specs.Parts.{noPart}
-use Rattle.ultra_questions.specs.Searching.{Found, firstIn, foundStart, ofType}
+use Rattle.ultra_locating.specs.Searching.{Found, firstIn, foundStart, ofType}
 use Rattle.ultra_questions.specs.CommandLineQuestion.{foundPart, commandLineIn, commandLinePart}
-use Rattle.ultra_questions.proofs.Located.{inside}
-use Rattle.ultra_questions.proofs.Searches.{found-at, none-at}
+use Rattle.ultra_locating.proofs.Located.{inside}
+use Rattle.ultra_locating.proofs.Searches.{found-at, none-at}
 use Rattle.ultra_questions.proofs.BodyLaws.{part-within}
 
 module _ (b : List ℕ) where

@@ -14,7 +14,7 @@ use Rattle.refusals.specs.declared.Answer.{Answer}
 use Rattle.refusals.specs.declared.Answer.the-variants.{Done, Refused}
 use Rattle.ultra_reading.specs.Reading.{usedLength}
 use Rattle.ultra_questions.specs.declared.attributes.AttributeAnswer.{AttributeAnswer}
-use Rattle.ultra_questions.specs.Passing.{ifAccepted}
+use Rattle.ultra_locating.specs.Passing.{ifAccepted}
 use Rattle.ultra_questions.specs.Parts.{noPart, PartOf, bodyPart}
 
 -- the answer for an attribute that starts at `o`: its value is the start

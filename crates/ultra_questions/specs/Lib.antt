@@ -1,13 +1,4 @@
-pub mod Passing
 pub mod Parts
-pub mod Searching
 pub mod AttributeQuestion
-pub mod MapQuestion
 pub mod CommandLineQuestion
 pub mod ModuleQuestion
-pub mod ByContext
-pub mod ByIndex
-pub mod QuestionRefusals
-pub mod MapAsBytes
-pub mod EveryBuffer
-pub mod Witness

@@ -10,8 +10,8 @@ use Rattle.ultra_format.specs.Decoding.{contextOf}
 use Rattle.refusals.specs.declared.Answer.{Answer}
 use Rattle.refusals.specs.declared.Answer.the-variants.{Done}
 use Rattle.ultra_reading.specs.Reading.{usedLength}
-use Rattle.ultra_questions.specs.Passing.{ifAccepted}
-use Rattle.ultra_questions.specs.Searching.{firstIn, foundStart}
+use Rattle.ultra_locating.specs.Passing.{ifAccepted}
+use Rattle.ultra_locating.specs.Searching.{firstIn, foundStart}
 
 abbrev pub holding : ℕ → Body → Bool
 holding a (platform p) = false

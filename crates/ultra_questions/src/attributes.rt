@@ -28,7 +28,7 @@ pub fn attribute_start(buf: &[u8], index: u64) -> Answer
     if words::load_u32(buf, 4) as u64 <= index {
         return Answer::Refused(Refusal::new(refusals::COUNT, used));
     }
-    Answer::Done(crate::search::start_of(buf, index))
+    Answer::Done(ultra_stepping::start_of(buf, index as u32) as u32)
 }
 
 // Nothing but the refusal that is passed on.

@@ -13,7 +13,7 @@ pub fn command_line_part(buf: &[u8]) -> Part
     let Answer::Done(_) = answer else {
         return crate::part::none();
     };
-    let start = crate::search::first_of_type(buf, 5);
+    let start = ultra_locating::first_of_type(buf, 5);
     if start == 0 {
         return crate::part::none();
     }

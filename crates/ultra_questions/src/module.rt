@@ -6,8 +6,8 @@ ghost use lib.ListN.{length};
 ghost use Rattle.words.specs.Words.{u32At};
 ghost use Rattle.ultra_format.specs.Members.{sizeSuits};
 ghost use Rattle.ultra_format.specs.Decoding.{contextOf, decoded};
-ghost use Rattle.ultra_questions.specs.Passing.{Accepts};
-ghost use Rattle.ultra_questions.specs.Searching.{firstIn, foundStart};
+ghost use Rattle.ultra_locating.specs.Passing.{Accepts};
+ghost use Rattle.ultra_locating.specs.Searching.{firstIn, foundStart};
 ghost use Rattle.ultra_questions.specs.ModuleQuestion.{holding, moduleHolding};
 use refusals::Answer;
 

@@ -7,8 +7,8 @@ use Rattle.key_value_text.specs.Lines.{Line, linesBytes}
 use Rattle.key_value_text.specs.Output.{puts}
 use Rattle.ultra_format.specs.Decoding.{contextOf}
 use Rattle.ultra_listing.specs.Listing.{linesOf, linesWhen}
-use Rattle.ultra_questions.specs.Passing.{Accepts}
-use Rattle.ultra_questions.proofs.Located.{used-is}
+use Rattle.ultra_locating.specs.Passing.{Accepts}
+use Rattle.ultra_locating.proofs.Located.{used-is}
 use borrow.Author.Needs.{needs}
 use Rattle.ultra_listing.proofs.write.Statement.{statement}
 use Rattle.ultra_listing.proofs.write.Tie as tie

@@ -13,7 +13,7 @@ use Rattle.key_value_text.specs.Lines.{Line, linesBytes}
 use Rattle.key_value_text.specs.Output.{puts}
 use Rattle.ultra_format.specs.Decoding.{start, storedType, storedSize, attributesFrom}
 use Rattle.ultra_stepping.proofs.WalkLaws.{start-next}
-use Rattle.ultra_questions.proofs.Located.{Inside, head-inside, inside}
+use Rattle.ultra_locating.proofs.Located.{Inside, head-inside, inside}
 use Rattle.ultra_listing.proofs.LineLaws.{lines-at, suits-at, attribute-next, attribute-end}
 use Rattle.ultra_listing.specs.Listing.{attributesLines}
 use borrow.Author.Needs.{needs}

@@ -1,14 +1,12 @@
 -- `ultra_questions::attributes::attribute` meets its contract.
 -- Assumes nothing.
-use Prim.Native.Nat.{ℕ, _+_}
 use mathlib.Core.Bool.{true}
-use mathlib.Core.Path.{_≡_, sym, ap, ap₂, _∙_}
+use mathlib.Core.Path.{_≡_, sym, ap, _∙_}
 use native.Mathlib.Omega.{arith}
 use denote.Ref.{now}
-use Rattle.words.specs.Words.{u32At}
 use Rattle.ultra_format.specs.Members.{sizeSuits}
-use Rattle.ultra_format.specs.Decoding.{decoded, storedType, storedSize}
-use Rattle.ultra_questions.proofs.Located.{Inside, inside, body-at}
+use Rattle.ultra_format.specs.Decoding.{decoded}
+use Rattle.ultra_locating.proofs.Located.{Loaded, loaded}
 use Rattle.ultra_questions.specs.AttributeQuestion.{unanswered}
 use Rattle.ultra_questions.proofs.AttributeLaws.{StartIs, start-said, answer-passed, answer-found, answer-loaded}
 use borrow.Author.Needs.{needs}
@@ -45,11 +43,11 @@ said c =
     let s = u .before .before .args in
     start-said (now (s .buf)) (s .index) _ (sym (u .attribute-start .ensures) ∙ c .before .answer .given .1)
 
-here : (c : tie.After-known-told) → Inside (now (c .before .before .before .before .before .args .buf)) (c .before .before .before .before .before .args .index)
-here c = let k = said c in inside _ (k .accepts) _ (k .below)
+here : (c : tie.After-known-told) → let s = c .before .before .before .before .before .args in Loaded (now (s .buf)) (s .index) (c .before .answer .given .0 .0)
+here c = let k = said c in loaded _ (k .accepts) _ _ (k .below) (k .is)
 
 load-u32-requires : tie.Need-load-u32-requires
-load-u32-requires c κs = omega (arith, said c .is, here c)
+load-u32-requires c κs = omega (arith, here c .reached)
 
 cast-load-u32-2 : tie.Need-cast-load-u32-2
 cast-load-u32-2 c = search needs
@@ -58,32 +56,25 @@ add-load-u32 : tie.Need-add-load-u32
 add-load-u32 c = search needs
 
 load-u32-requires-2 : tie.Need-load-u32-requires-2
-load-u32-requires-2 c κs = omega (arith, said (c .before) .is, here (c .before))
+load-u32-requires-2 c κs = omega (arith, here (c .before) .reached)
 
 cast-records : tie.Need-cast-records
 cast-records c = search needs
 
--- its type and size are loaded
-kind : (c : tie.After-load-u32) → c .load-u32 .result ≡ storedType (now (c .before .before .before .before .before .before .args .buf)) (c .before .before .before .before .before .before .args .index)
-kind c = c .load-u32 .ensures ∙ ap (u32At (now (c .before .before .before .before .before .before .args .buf))) (said (c .before) .is)
-
-size : (c : tie.After-load-u322) → c .load-u322 .result ≡ storedSize (now (c .before .before .before .before .before .before .before .args .buf)) (c .before .before .before .before .before .before .before .args .index)
-size c = c .load-u322 .ensures ∙ ap (λ (o : ℕ). u32At (now (c .before .before .before .before .before .before .before .args .buf)) (o + 4)) (said (c .before .before) .is)
-
+-- its size suits its type
 suits : (c : tie.After-load-u322)
     → sizeSuits (c .load-u322 .result) (decoded (now (c .before .before .before .before .before .before .before .args .buf)) (c .before .before .before .answer .given .0 .0) (c .load-u322 .result) (c .before .load-u32 .result)) ≡ true
-suits c = ap₂ sizeSuits (size c) (body-at _ _ _ _ _ (said (c .before .before) .is) (size c) (kind (c .before))) ∙ here (c .before .before) .suits
+suits c = rw (c .load-u322 .ensures, c .before .load-u32 .ensures) (here (c .before .before) .suits)
 
 records-requires : tie.Need-records-requires
-records-requires c κs = (omega (arith, said (c .before .before) .is, size c, here (c .before .before)), suits c)
+records-requires c κs = (omega (arith, c .load-u322 .ensures, here (c .before .before) .reached), suits c)
 
 of-body-requires : tie.Need-of-body-requires
 of-body-requires c κs =
-    let k = c .before .before .before in
-    let e = said k .is in
-    let z = size (c .before) in
-    let w = here k in
-    ((omega arith, omega arith), suits (c .before))
+    let k = c .before in
+    let z = k .load-u322 .ensures in
+    let w = here (k .before .before) .reached in
+    ((omega arith, omega arith), suits k)
 
 returns-2 : tie.Need-returns-2
 returns-2 c =
@@ -91,7 +82,8 @@ returns-2 c =
     let k = z .before .before in
     let u = k .before .before .before in
     let s = u .before .before .args in
-    answer-loaded (now (s .buf)) (s .index) _ _ _ _ _ (said k .is) (kind (z .before)) (size z) (c .before .records .ensures) (c .of-body .ensures)
+    let w = here k .reached in
+    answer-loaded (now (s .buf)) (s .index) _ _ _ _ _ (said k .is) (z .before .load-u32 .ensures ∙ w .type-is) (z .load-u322 .ensures ∙ w .size-is) (c .before .records .ensures) (c .of-body .ensures)
     ∙ answer-found (now (s .buf)) (s .index) _ (sym (u .attribute-start .ensures) ∙ k .before .answer .given .1)
 
 pub attribute-spec : {M : Type 1} → statement M

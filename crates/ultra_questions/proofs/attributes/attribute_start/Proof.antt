@@ -4,8 +4,9 @@ use mathlib.Core.Path.{sym, ap, _∙_}
 use native.Mathlib.Omega.{arith}
 use denote.Ref.{now}
 use Rattle.refusals.specs.declared.Answer.the-variants.{Done, Refused}
-use Rattle.ultra_questions.specs.Passing.{Accepts}
-use Rattle.ultra_questions.proofs.Located.{head-inside}
+use Rattle.ultra_locating.specs.Passing.{Accepts}
+use Rattle.ultra_acceptance.proofs.Walked.{in-bounds}
+use Rattle.ultra_locating.proofs.Located.{reading, head-inside, inside}
 use Rattle.ultra_questions.proofs.AttributeLaws.{start-passed, start-past, start-found}
 use borrow.Author.Needs.{needs}
 use Rattle.ultra_questions.proofs.attributes.attribute_start.Statement.{statement}
@@ -46,8 +47,17 @@ returns-2 c =
     let s = k .before .before .before .before .before .args in
     ap Refused (c .new .ensures) ∙ start-past (now (s .buf)) (s .index) _ (accepts k .1) (omega (arith, c .before .before .load-u32 .ensures))
 
+cast-start-of : tie.Need-cast-start-of
+cast-start-of c = search needs
+
 start-of-requires : tie.Need-start-of-requires
-start-of-requires c κs = (accepts (c .before .before), omega (arith, c .before .load-u32 .ensures))
+start-of-requires c κs = λ j l. in-bounds 2 _ _ (reading _ (accepts (c .before .before))) j (omega (arith, c .before .load-u32 .ensures))
+
+cast-t10 : tie.Need-cast-t10
+cast-t10 c =
+    let k = c .before .before .before in
+    let s = k .before .before .before .before .before .args in
+    omega (arith, c .start-of .ensures, inside _ (accepts k) (s .index) (omega (arith, c .before .before .load-u32 .ensures)))
 
 returns-3 : tie.Need-returns-3
 returns-3 c =
@@ -67,5 +77,7 @@ attribute-start-spec =
     cast-if1
     new-requires
     returns-2
+    cast-start-of
     start-of-requires
+    cast-t10
     returns-3)

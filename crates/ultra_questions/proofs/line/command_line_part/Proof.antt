@@ -1,17 +1,13 @@
 -- `ultra_questions::line::command_line_part` meets its contract.
 -- Assumes nothing.
-use Prim.Native.Nat.{ℕ, _+_}
 use mathlib.Core.Path.{_≡_, sym, ap, ap₂, _∙_}
 use native.Mathlib.Omega.{arith}
 use denote.Ref.{now}
-use Rattle.words.specs.Words.{u32At}
-use Rattle.ultra_format.specs.Members.{sizeSuits}
-use Rattle.ultra_format.specs.Decoding.{decoded, start, storedSize, storedCount, storedAttribute, contextOf}
-use Rattle.ultra_questions.specs.Passing.{Accepts}
+use Rattle.ultra_format.specs.Decoding.{decoded, storedAttribute}
+use Rattle.ultra_locating.specs.Passing.{Accepts}
 use Rattle.ultra_questions.specs.Parts.{bodyPart}
-use Rattle.ultra_questions.specs.Searching.{firstIn, foundStart, ofType}
-use Rattle.ultra_questions.proofs.Located.{Inside, inside, body-at}
-use Rattle.ultra_questions.proofs.Searches.{FoundAt, found-at, none-at, type-said}
+use Rattle.ultra_locating.specs.Searching.{ofType}
+use Rattle.ultra_locating.proofs.Searches.{none-at, FirstOfType, first-of}
 use Rattle.ultra_questions.proofs.LineLaws.{line-passed, line-found}
 use borrow.Author.Needs.{needs}
 use Rattle.ultra_questions.proofs.line.command_line_part.Statement.{statement}
@@ -59,39 +55,31 @@ add-load-u32 : tie.Need-add-load-u32
 add-load-u32 c = search needs
 
 -- there is a command line, at `start`
-line : (c : tie.Else1) → FoundAt (ofType 5) (now (c .before .before .before .before .before .before .args .buf)) (storedCount (now (c .before .before .before .before .before .before .args .buf))) (firstIn (ofType 5) (contextOf (now (c .before .before .before .before .before .before .args .buf))))
-line c = found-at (ofType 5) _ (λ z. c .if1 .left (c .before .first-of-type .ensures ∙ z))
-
-at : (c : tie.Else1) → c .before .first-of-type .result ≡ start (now (c .before .before .before .before .before .before .args .buf)) (line c .index)
-at c = c .before .first-of-type .ensures ∙ ap foundStart (line c .is)
-
-here : (c : tie.Else1) → Inside (now (c .before .before .before .before .before .before .args .buf)) (line c .index)
-here c = inside _ (accepts (c .before .before)) _ (line c .below)
+line : (c : tie.Else1) → FirstOfType (now (c .before .before .before .before .before .before .args .buf)) 5 (c .before .first-of-type .result)
+line c = first-of _ 5 _ (accepts (c .before .before)) (c .before .first-of-type .ensures) (c .if1 .left)
 
 load-u32-requires : tie.Need-load-u32-requires
-load-u32-requires c κs = omega (arith, at c, here c)
-
-size : (c : tie.After-load-u32) → c .load-u32 .result ≡ storedSize (now (c .before .before .before .before .before .before .before .args .buf)) (line (c .before) .index)
-size c = c .load-u32 .ensures ∙ ap (λ (o : ℕ). u32At (now (c .before .before .before .before .before .before .before .args .buf)) (o + 4)) (at (c .before))
+load-u32-requires c κs = omega (arith, line c .here .reached)
 
 -- its body is that of a command line
 body : (c : tie.After-load-u32)
-    → decoded (now (c .before .before .before .before .before .before .before .args .buf)) (c .before .before .first-of-type .result) (c .load-u32 .result) 5 ≡ storedAttribute (now (c .before .before .before .before .before .before .before .args .buf)) (line (c .before) .index) .body
-body c = let f = line (c .before) in body-at _ (f .index) _ _ 5 (at (c .before)) (size c) (sym (type-said _ (f .index) 5 (f .meets)))
+    → let b = now (c .before .before .before .before .before .before .before .args .buf) in
+    decoded b (c .before .before .first-of-type .result) (c .load-u32 .result) 5 ≡ storedAttribute b (line (c .before) .found .index) .body
+body c = let l = line (c .before) in rw (c .load-u32 .ensures) (rw (l .type-is) at (l .here .body-is))
 
 of-body-requires : tie.Need-of-body-requires
 of-body-requires c κs =
-    let e = at (c .before) in
-    let z = size c in
-    let w = here (c .before) in
-    ((omega arith, omega arith), ap₂ sizeSuits z (body c) ∙ w .suits)
+    let l = line (c .before) in
+    let w = l .here .reached in
+    let z = c .load-u32 .ensures in
+    ((omega arith, omega arith), rw z (rw (l .type-is) at (l .here .suits)))
 
 returns-3 : tie.Need-returns-3
 returns-3 c =
     let z = c .before in
     let e = z .before in
     let a = accepts (e .before .before) in
-    c .of-body .ensures ∙ ap₂ bodyPart (at e) (body z) ∙ line-found _ (a .1) (line e .is)
+    c .of-body .ensures ∙ ap₂ bodyPart (line e .at) (body z) ∙ line-found _ (a .1) (line e .found .is)
 
 pub command-line-part-spec : {M : Type 1} → statement M
 command-line-part-spec =

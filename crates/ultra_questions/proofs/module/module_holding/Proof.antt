@@ -3,7 +3,7 @@
 use mathlib.Core.Path.{sym, ap, _∙_}
 use denote.Ref.{now}
 use Rattle.refusals.specs.declared.Answer.the-variants.{Done}
-use Rattle.ultra_questions.specs.Passing.{Accepts}
+use Rattle.ultra_locating.specs.Passing.{Accepts}
 use Rattle.ultra_questions.proofs.ModuleLaws.{module-passed, module-read}
 use borrow.Author.Needs.{needs}
 use Rattle.ultra_questions.proofs.module.module_holding.Statement.{statement}

@@ -1,0 +1,36 @@
+-- The statements on the questions do not speak of nothing: what they say, in digits, of a buffer that holds a context with every type of
+-- attribute (Examples, of crate ultra_format), on both sides of each limit. Proved in proofs/Witness.antt, `witnessed`, from them.
+-- Assumes nothing.
+use Prim.Native.Nat.{ℕ, _<_}
+use mathlib.Core.Path.{_≡_}
+use mathlib.Core.List.{List, _∷_}
+use lib.ListN.{length, getD}
+use Rattle.refusals.specs.Answers.{refused}
+use Rattle.ultra_format.specs.Examples.{everyType, everyTypeBytes}
+use Rattle.refusals.specs.declared.Answer.the-variants.{Done}
+use Rattle.ultra_acceptance.specs.Acceptance.{HoldsContext}
+use Rattle.ultra_questions.specs.Parts.{part}
+use Rattle.ultra_questions.specs.AttributeQuestion.{attributeStart}
+use Rattle.ultra_map_question.specs.MapQuestion.{mapCopied, mapCopiedBytes}
+use Rattle.ultra_questions.specs.CommandLineQuestion.{commandLinePart}
+use Rattle.ultra_questions.specs.ModuleQuestion.{moduleHolding}
+
+pub record Witnessed : Type 0 where
+  pub holds : HoldsContext 2 everyTypeBytes everyType
+  -- seven attributes in 688 bytes
+  pub last : attributeStart everyTypeBytes 6 ≡ Done 672
+  pub past : attributeStart everyTypeBytes 7 ≡ refused 3 688
+  -- 4,097 bytes of a module at 2^33, the attribute of which starts at 504
+  pub before : moduleHolding everyTypeBytes 8589934591 ≡ Done 0
+  pub firstByte : moduleHolding everyTypeBytes 8589934592 ≡ Done 504
+  pub lastByte : moduleHolding everyTypeBytes 8589938688 ≡ Done 504
+  pub after : moduleHolding everyTypeBytes 8589938689 ≡ Done 0
+  -- two entries, six numbers
+  pub map : (a b c d e f : ℕ) (rest : List ℕ)
+      → mapCopied everyTypeBytes (a ∷ b ∷ c ∷ d ∷ e ∷ f ∷ rest) ≡ (Done 2, 0 ∷ 18446744073709547520 ∷ 1 ∷ 18446744073709547520 ∷ 4096 ∷ 4294967296 ∷ rest)
+  pub tooShort : (out : List ℕ) → length out ≡ 5 → (mapCopied everyTypeBytes out .0 ≡ refused 18 688) × (mapCopied everyTypeBytes out .1 ≡ out)
+  -- in bytes, 48
+  pub mapBytes : (out : List ℕ) → length out ≡ 48 → ((i : ℕ) → getD out i 0 < 256) → mapCopiedBytes everyTypeBytes out .0 ≡ Done 2
+  pub bytesTooShort : (out : List ℕ) → length out ≡ 47 → mapCopiedBytes everyTypeBytes out .0 ≡ refused 18 688
+  -- the text of eight bytes, from 616 on
+  pub line : commandLinePart everyTypeBytes ≡ part 616 8
