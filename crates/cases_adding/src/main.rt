@@ -7,6 +7,48 @@ mod maps;
 mod modules;
 mod platforms;
 
+use cases_text::table;
+
+// What a table's rows are given.
+enum Kind {
+    Map,
+    Line,
+    PlatformType,
+    Platform,
+    PlatformName,
+    Kernel,
+    KernelPath,
+    Module,
+    ModuleName,
+    Framebuffer,
+}
+
+fn case(kind: Kind, row: &[u8]) {
+    let label = table::label(row);
+    let text = table::given(row);
+    match kind {
+        Kind::Map => maps::map(label, table::numbers(row)),
+        Kind::Line => lines::command_line(label, text),
+        Kind::PlatformType => platforms::typed(label, table::numbers(row)),
+        Kind::Platform => platforms::members(label, table::numbers(row)),
+        Kind::PlatformName => platforms::named(label, text),
+        Kind::Kernel => kernels::members(label, table::numbers(row)),
+        Kind::KernelPath => kernels::from(label, text),
+        Kind::Module => modules::members(label, table::numbers(row)),
+        Kind::ModuleName => modules::named(label, text),
+        Kind::Framebuffer => framebuffers::members(label, table::numbers(row)),
+    }
+}
+
+fn cases(kind: Kind, table: &[u8]) {
+    let mut at = 0;
+    while at < table.len() {
+        let end = table::end(table, at);
+        case(kind, &table[at..end]);
+        at = end;
+    }
+}
+
 fn main() {
     maps::all();
     lines::all();

@@ -1,6 +1,9 @@
 // The platform, added to a context that was just begun.
+use crate::Kind;
+use crate::cases;
 use cases_adds::context;
 use cases_shared::given;
+use cases_text::table::Values;
 use ultra_format::OptionalU8;
 use ultra_format::OptionalU64;
 use ultra_format::PlatformRecord;
@@ -10,29 +13,48 @@ fn platform(label: &[u8], record: PlatformRecord) {
     cases_adds::platform(label, buf, record);
 }
 
-fn kind(label: &[u8], kind: u32) {
+// Its type; and 1 for a name of bytes 128.
+pub fn typed(label: &[u8], values: Values) {
+    let given = values.numbers;
     let mut record = given::platform();
-    record.kind = kind;
+    record.kind = (given[0] % 4294967296) as u32;
+    if given[1] == 1 {
+        record.name = [128u8; 32];
+    }
     platform(label, record);
 }
 
-fn kinds() {
-    kind(b"platform", 3);
-    kind(b"platform of type 0", 0);
-    kind(b"platform of type 4294967295", 4294967295);
+fn types() {
+    cases(
+        Kind::PlatformType,
+        b"\
+        platform: 3\n\
+        platform of type 0: 0\n\
+        platform of type 4294967295: 4294967295\n",
+    );
 }
 
-// A platform with these late members; its other members are of no matter, but for type and name.
-fn late(
-    kind: u32,
-    name: [u8; 32],
-    higher_half_base: OptionalU64,
-    depth: OptionalU8,
-    dtb: OptionalU64,
-    smbios: OptionalU64,
-) -> PlatformRecord {
+fn optional(present: u64) -> OptionalU64 {
+    if present == 1 {
+        return OptionalU64::Present(0);
+    }
+    OptionalU64::Absent
+}
+
+fn optional_byte(present: u64) -> OptionalU8 {
+    if present == 1 {
+        return OptionalU8::Present(4);
+    }
+    OptionalU8::Absent
+}
+
+fn record(given: [u64; 6], name: [u8; 32]) -> PlatformRecord {
+    let higher_half_base = optional(given[1]);
+    let depth = optional_byte(given[2]);
+    let dtb = optional(given[3]);
+    let smbios = optional(given[4]);
     PlatformRecord {
-        kind,
+        kind: (given[0] % 4294967296) as u32,
         loader_major: 1,
         loader_minor: 4,
         name,
@@ -44,103 +66,54 @@ fn late(
     }
 }
 
-fn without_higher_half_base() {
-    let name = given::name(b"frost\0\0\0");
-    let record = late(
-        2,
-        name,
-        OptionalU64::Absent,
-        OptionalU8::Present(4),
-        OptionalU64::Present(0),
-        OptionalU64::Present(0),
-    );
-    platform(b"platform without higher half base", record);
-}
-
-fn without_depth(label: &[u8], kind: u32, front: &[u8; 8]) {
-    let name = given::name(front);
-    let record = late(
-        kind,
-        name,
-        OptionalU64::Present(0),
-        OptionalU8::Absent,
-        OptionalU64::Present(0),
-        OptionalU64::Present(0),
-    );
+// Its type; 1 if it has a higher half base, a depth, a dtb, an smbios; and 1 for a name that begins with byte 128.
+pub fn members(label: &[u8], values: Values) {
+    let given = values.numbers;
+    let mut name = given::name(b"frost");
+    if given[5] == 1 {
+        name[0] = 128;
+    }
+    let record = record(given, name);
     platform(label, record);
 }
 
-fn without_dtb() {
-    let name = given::name(b"frost\0\0\0");
-    let record = late(
-        2,
-        name,
-        OptionalU64::Present(0),
-        OptionalU8::Present(4),
-        OptionalU64::Absent,
-        OptionalU64::Present(0),
+// In the last two, two or three rules are broken; the lowest number is given.
+fn absent() {
+    cases(
+        Kind::Platform,
+        b"\
+        platform without higher half base: 2 0 1 1 1\n\
+        platform without depth: 2 1 0 1 1\n\
+        platform without dtb: 2 1 1 0 1\n\
+        platform without smbios: 2 1 1 1 0\n\
+        platform without depth, type 0, bad name: 0 1 0 1 1 1\n",
     );
-    platform(b"platform without dtb", record);
+    cases(Kind::PlatformType, b"platform of type 0, bad name: 0 1\n");
 }
 
-fn without_smbios() {
-    let name = given::name(b"frost\0\0\0");
-    let record = late(
-        2,
-        name,
-        OptionalU64::Present(0),
-        OptionalU8::Present(4),
-        OptionalU64::Present(0),
-        OptionalU64::Absent,
-    );
-    platform(b"platform without smbios", record);
-}
-
-fn named(label: &[u8], name: [u8; 32]) {
+pub fn named(label: &[u8], text: &[u8]) {
     let mut record = given::platform();
+    let name = given::name(text);
     record.name = name;
     platform(label, record);
 }
 
-fn front(label: &[u8], front: &[u8; 8]) {
-    let name = given::name(front);
-    named(label, name);
-}
-
-fn bad_name() {
-    let mut record = given::platform();
-    record.kind = 0;
-    record.name = [128u8; 32];
-    platform(b"platform of type 0, bad name", record);
-}
-
-fn absent() {
-    without_higher_half_base();
-    without_depth(b"platform without depth", 2, b"frost\0\0\0");
-    without_dtb();
-    without_smbios();
-    without_depth(
-        b"platform without depth, type 0, bad name",
-        0,
-        b"\x80rost\0\0\0",
-    );
-    bad_name();
-}
-
 fn names() {
-    front(b"platform, name of 0 bytes", b"\0\0\0\0\0\0\0\0");
-    let mut name = [b'n'; 32];
-    name[31] = 0;
-    named(b"platform, name of 31 bytes", name);
-    named(b"platform, name of 32 bytes", [b'n'; 32]);
-    front(b"platform, name with a zero inside", b"fr\0st\0\0\0");
-    front(b"platform, name after a zero", b"\0frost\0\0");
-    front(b"platform, name with byte 127", b"f\x7frost\0\0");
-    front(b"platform, name with byte 128", b"f\x80rost\0\0");
+    cases(
+        Kind::PlatformName,
+        b"\
+        platform, name of 0 bytes: \n\
+        platform, name of 31 bytes: nnnnnnnnnnnnnnnnnnnnnnnnnnnnnnn\n\
+        platform, name of 32 bytes: nnnnnnnnnnnnnnnnnnnnnnnnnnnnnnnn\n\
+        platform, name with a zero inside: fr\0st\n\
+        platform, name after a zero: \0frost\n\
+        platform, name with byte 127: f\x7frost\n\
+        platform, name with byte 128: f\x80rost\n",
+    );
 }
 
 pub fn all() {
-    kinds();
+    types();
     absent();
     names();
 }

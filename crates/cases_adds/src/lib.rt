@@ -3,6 +3,7 @@
 pub mod context;
 
 use cases_shared::show;
+use cases_text::print;
 use refusals::Answer;
 use ultra_format::FramebufferRecord;
 use ultra_format::KernelRecord;
@@ -10,14 +11,14 @@ use ultra_format::ModuleRecord;
 use ultra_format::PlatformRecord;
 
 pub fn line(label: &[u8], answer: Answer, changed: usize) {
-    show::words(label);
+    print::words(label);
     show::answer(answer);
-    show::number(b", bytes changed ", changed as u64);
-    show::words(b"\n");
+    print::number(b", bytes changed ", changed as u64);
+    print::words(b"\n");
 }
 
 pub fn changed(before: &[u8; 1024], after: &[u8; 1024]) -> usize {
-    show::differences(before, after)
+    print::differences(before, after)
 }
 
 pub fn platform(label: &[u8], before: [u8; 1024], record: PlatformRecord) {

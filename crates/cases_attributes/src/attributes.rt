@@ -1,8 +1,11 @@
 // The attribute at an index.
+use crate::Kind;
+use crate::cases;
 use crate::context;
-use cases_shared::build;
+use cases_contexts::build;
 use cases_shared::members;
 use cases_shared::show;
+use cases_text::print;
 use refusals::Answer;
 use ultra_questions::AttributeAnswer;
 use ultra_questions::Part;
@@ -10,21 +13,21 @@ use ultra_questions::Part;
 // A map's or a command line's part; of other types that there is none, wherever it would lie.
 fn part(kind: u32, part: Part, bytes: &[u8]) {
     if kind == 3 || kind == 5 {
-        show::number(b"  part at ", part.start as u64);
-        show::number(b" length ", part.length as u64);
+        print::number(b"  part at ", part.start as u64);
+        print::number(b" length ", part.length as u64);
     } else {
-        show::number(b"  part length ", part.length as u64);
+        print::number(b"  part length ", part.length as u64);
     }
-    show::number(b", bytes handed back ", bytes.len() as u64);
+    print::number(b", bytes handed back ", bytes.len() as u64);
     if kind == 3 {
-        show::bytes(bytes);
+        print::bytes(bytes);
     }
     if kind == 5 {
-        show::words(b" \"");
-        show::words(bytes);
-        show::words(b"\"");
+        print::words(b" \"");
+        print::words(bytes);
+        print::words(b"\"");
     }
-    show::words(b"\n");
+    print::words(b"\n");
 }
 
 fn found(answer: AttributeAnswer, bytes: &[u8]) {
@@ -39,111 +42,141 @@ fn found(answer: AttributeAnswer, bytes: &[u8]) {
 fn ask(label: &[u8], buf: &[u8; 1024], index: u64) {
     let answer = ultra_questions::attribute(buf, index);
     let number = answer.answer;
-    show::words(label);
+    print::words(label);
     show::answer(number);
     match number {
         Answer::Done(_) => found(answer, ultra_questions::attribute_part(buf, index)),
-        Answer::Refused(_) => show::words(b"\n"),
+        Answer::Refused(_) => print::words(b"\n"),
     }
 }
 
 // The start alone.
 fn ask_start(label: &[u8], buf: &[u8; 1024], index: u64) {
-    show::words(label);
+    print::words(label);
     show::answer(ultra_questions::attribute_start(buf, index));
-    show::words(b"\n");
+    print::words(b"\n");
 }
 
-fn first_half(space: &[u8; 1024]) {
-    ask(b"index 0", space, 0);
-    ask(b"index 1", space, 1);
-    ask(b"index 2", space, 2);
-    ask(b"index 3", space, 3);
+fn context_of_every_type() -> [u8; 1024] {
+    let mut buf = [165u8; 1024];
+    context::every_type(&mut buf);
+    buf
 }
 
-fn second_half(space: &[u8; 1024]) {
-    ask(b"index 4", space, 4);
-    ask(b"index 5", space, 5);
-    ask(b"index 6", space, 6);
-    ask(b"index 7, one below the count", space, 7);
+// The index.
+pub fn every(label: &[u8], given: [u64; 6]) {
+    let buf = context_of_every_type();
+    ask(label, &buf, given[0]);
 }
 
-fn past_the_count(space: &[u8; 1024]) {
-    ask(b"index 8, the count", space, 8);
-    ask(b"index 9", space, 9);
-    ask(b"index 4294967296", space, 4294967296);
-    ask(b"index 4294967303", space, 4294967303);
-    ask(b"index 18446744073709551615", space, 18446744073709551615);
-}
-
-fn starts(space: &[u8; 1024]) {
-    ask_start(b"start alone of index 0", space, 0);
-    ask_start(b"start alone of index 4", space, 4);
-    ask_start(b"start alone of index 7", space, 7);
-    ask_start(b"start alone of index 8", space, 8);
-    ask_start(b"start alone of index 4294967296", space, 4294967296);
+pub fn every_start(label: &[u8], given: [u64; 6]) {
+    let buf = context_of_every_type();
+    ask_start(label, &buf, given[0]);
 }
 
 pub fn every_type() {
-    let mut space = [165u8; 1024];
-    context::every_type(&mut space);
-    first_half(&space);
-    second_half(&space);
-    past_the_count(&space);
-    starts(&space);
+    cases(
+        Kind::Every,
+        b"\
+        index 0: 0\n\
+        index 1: 1\n\
+        index 2: 2\n\
+        index 3: 3\n\
+        index 4: 4\n\
+        index 5: 5\n\
+        index 6: 6\n\
+        index 7, one below the count: 7\n\
+        index 8, the count: 8\n\
+        index 9: 9\n\
+        index 4294967296: 4294967296\n\
+        index 4294967303: 4294967303\n\
+        index 18446744073709551615: 18446744073709551615\n",
+    );
+    cases(
+        Kind::EveryStart,
+        b"\
+        start alone of index 0: 0\n\
+        start alone of index 4: 4\n\
+        start alone of index 7: 7\n\
+        start alone of index 8: 8\n\
+        start alone of index 4294967296: 4294967296\n",
+    );
 }
 
-// The platform of `size` bytes has a kernel right after it, whose type, size, bases and size in memory are not zero. (Only the byte where
-// one of 56 bytes would have its depth is zero: it is the lowest of a base, which is a multiple of 4,096.)
-fn platform_of(label: &[u8], size: u32) {
-    let mut space = [165u8; 1024];
-    build::head(&mut space, 2);
-    context::platform(&mut space, size);
+// The platform's size. It has a kernel right after it, whose type, size, bases and size in memory are not zero. (Only the byte where one
+// of 56 bytes would have its depth is zero: it is the lowest of a base, which is a multiple of 4,096.)
+pub fn platform(label: &[u8], given: [u64; 6]) {
+    let size = given[0];
+    let mut buf = [165u8; 1024];
+    build::head(&mut buf, 2);
+    context::platform(&mut buf, size);
     if size < 256 {
-        context::kernel(&mut space, 8 + size as usize, 336);
+        context::kernel(&mut buf, 8 + size, 336);
     }
-    ask(label, &space, 0);
+    ask(label, &buf, 0);
 }
 
 pub fn platforms() {
-    platform_of(b"platform of 56 bytes", 56);
-    platform_of(b"platform of 64 bytes", 64);
-    platform_of(b"platform of 72 bytes", 72);
-    platform_of(b"platform of 80 bytes", 80);
-    platform_of(b"platform of 88 bytes", 88);
-    platform_of(b"platform of 96 bytes", 96);
+    cases(
+        Kind::Platform,
+        b"\
+        platform of 56 bytes: 56\n\
+        platform of 64 bytes: 64\n\
+        platform of 72 bytes: 72\n\
+        platform of 80 bytes: 80\n\
+        platform of 88 bytes: 88\n\
+        platform of 96 bytes: 96\n",
+    );
+}
+
+fn platform_and_kernel(count: u64) -> [u8; 1024] {
+    let mut buf = [0u8; 1024];
+    build::head(&mut buf, count);
+    build::platform_and_kernel(&mut buf, 88);
+    buf
+}
+
+fn third_of_type_0() -> [u8; 1024] {
+    let mut buf = platform_and_kernel(3);
+    build::header(&mut buf, 432, 0, 8);
+    buf
 }
 
 // A third attribute of type 0 is refused, whatever index is asked for.
-fn third_of_type_0() {
-    let mut space = [0u8; 1024];
-    build::head(&mut space, 3);
-    build::platform_and_kernel(&mut space, 88);
-    build::header(&mut space, 432, 0, 8);
-    ask(b"third of type 0, index 0", &space, 0);
-    ask(b"third of type 0, index 2", &space, 2);
-    ask(b"third of type 0, index 3, the count", &space, 3);
-    ask(
-        b"third of type 0, index 2^64 - 1",
-        &space,
-        18446744073709551615,
-    );
-    ask_start(b"third of type 0, start alone of index 0", &space, 0);
+pub fn type_zero(label: &[u8], given: [u64; 6]) {
+    let buf = third_of_type_0();
+    ask(label, &buf, given[0]);
 }
 
-fn count_of(label: &[u8], count: u32, index: u64) {
-    let mut space = [0u8; 1024];
-    build::head(&mut space, count);
-    build::platform_and_kernel(&mut space, 88);
-    ask(label, &space, index);
+fn start_of_type_zero() {
+    let buf = third_of_type_0();
+    ask_start(b"third of type 0, start alone of index 0", &buf, 0);
+}
+
+// The count and the index.
+pub fn count(label: &[u8], given: [u64; 6]) {
+    let buf = platform_and_kernel(given[0]);
+    ask(label, &buf, given[1]);
 }
 
 pub fn refused() {
-    third_of_type_0();
-    count_of(b"count 1, index 0", 1, 0);
-    count_of(b"count 1, index 1", 1, 1);
-    count_of(b"count 0, index 0", 0, 0);
-    count_of(b"count 1025, index 1024", 1025, 1024);
-    count_of(b"count 1025, index 1025", 1025, 1025);
+    cases(
+        Kind::TypeZero,
+        b"\
+        third of type 0, index 0: 0\n\
+        third of type 0, index 2: 2\n\
+        third of type 0, index 3, the count: 3\n\
+        third of type 0, index 2^64 - 1: 18446744073709551615\n",
+    );
+    start_of_type_zero();
+    cases(
+        Kind::Count,
+        b"\
+        count 1, index 0: 1 0\n\
+        count 1, index 1: 1 1\n\
+        count 0, index 0: 0 0\n\
+        count 1025, index 1024: 1025 1024\n\
+        count 1025, index 1025: 1025 1025\n",
+    );
     ask(b"zeros, index 0", &[0u8; 1024], 0);
 }

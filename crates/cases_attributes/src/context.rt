@@ -1,78 +1,103 @@
 // Attributes with every member set. In an array of 165s, what is silent stays 165: reserved bytes, bytes after a text's closing zero,
 // bytes after the sizes of document 01's table, bodies of type 7.
-use cases_shared::build;
+use cases_contexts::build;
 
 // A platform of `size` bytes at 8. All of its members are written, and what is put after a short one then covers those past its size.
-pub fn platform(buf: &mut [u8; 1024], size: u32) {
+pub fn platform(buf: &mut [u8; 1024], size: u64) {
     build::header(buf, 8, 1, size);
-    build::put_u32(buf, 16, 2);
-    build::put_u16(buf, 20, 1);
-    build::put_u16(buf, 22, 4);
-    build::put_eight(buf, 24, b"frost\0\xa5\xa5");
-    build::put_u64(buf, 56, 917504);
-    build::put_u64(buf, 64, 18446603336221196288);
-    build::put_byte(buf, 72, 5);
-    build::put_u64(buf, 80, 73728);
-    build::put_u64(buf, 88, 81920);
+    build::put_bytes(buf, 24, b"frost\0");
+    build::put_rows(
+        buf,
+        b"\
+        type: 16 4 2\n\
+        loader major: 20 2 1\n\
+        loader minor: 22 2 4\n\
+        rsdp: 56 8 917504\n\
+        higher half base: 64 8 18446603336221196288\n\
+        depth: 72 1 5\n\
+        dtb: 80 8 73728\n\
+        smbios: 88 8 81920\n",
+    );
 }
 
 // Where the kernel comes from: its partition and its path.
-fn origin(buf: &mut [u8; 1024], at: usize) {
+fn origin(buf: &mut [u8; 1024], at: u64) {
     if at < 600 {
-        build::put_u64(buf, at + 32, 3);
-        build::put_eight(buf, at + 40, b"\x01\x02\x03\x04\x05\x06\x07\x08");
-        build::put_eight(buf, at + 48, b"\x00\xff\x0b\x0c\x0d\x0e\x0f\x00");
-        build::put_eight(buf, at + 56, b"\x11\x12\x13\x14\x15\x16\x17\x18");
-        build::put_eight(buf, at + 64, b"\x19\x1a\x1b\x1c\x1d\x1e\x1f\x20");
-        build::put_u32(buf, at + 72, 7);
-        build::put_u32(buf, at + 76, 9);
-        build::put_eight(buf, at + 80, b"/boot/k\0");
+        build::put(buf, at + 32, 8, 3);
+        build::put_bytes(
+            buf,
+            at + 40,
+            b"\
+            \x01\x02\x03\x04\x05\x06\x07\x08\x00\xff\x0b\x0c\x0d\x0e\x0f\x00\
+            \x11\x12\x13\x14\x15\x16\x17\x18\x19\x1a\x1b\x1c\x1d\x1e\x1f\x20",
+        );
+        build::put(buf, at + 72, 4, 7);
+        build::put(buf, at + 76, 4, 9);
+        build::put_bytes(buf, at + 80, b"/boot/k\0");
     }
 }
 
-pub fn kernel(buf: &mut [u8; 1024], at: usize, size: u32) {
+pub fn kernel(buf: &mut [u8; 1024], at: u64, size: u64) {
     if at < 600 {
         build::header(buf, at, 2, size);
-        build::put_u64(buf, at + 8, 2097152);
-        build::put_u64(buf, at + 16, 18446744071564165120);
-        build::put_u64(buf, at + 24, 65536);
+        build::put(buf, at + 8, 8, 2097152);
+        build::put(buf, at + 16, 8, 18446744071564165120);
+        build::put(buf, at + 24, 8, 65536);
         origin(buf, at);
     }
 }
 
-// A module of 104 bytes.
-fn long_module(buf: &mut [u8; 1024]) {
-    build::header(buf, 504, 4, 104);
-    build::put_u32(buf, 516, 1);
-    build::put_eight(buf, 520, b"initrd\0\xa5");
-    build::put_u64(buf, 584, 16777216);
-    build::put_u64(buf, 592, 123457);
+// A map at 448 and two modules: one of 104 bytes at 504, and at 608 one whose name fills its field up to the closing zero.
+fn map_and_modules(buf: &mut [u8; 1024]) {
+    build::put_rows(
+        buf,
+        b"\
+        map: 448 4 3\n\
+        its size: 452 4 56\n\
+        an address: 456 8 72623859790382856\n\
+        its size: 464 8 4096\n\
+        its type: 472 8 1\n\
+        an address: 480 8 1230066625199609624\n\
+        its size: 488 8 8192\n\
+        its type: 496 8 2387509390608836392\n\
+        module: 504 4 4\n\
+        its size: 508 4 104\n\
+        its type: 516 4 1\n\
+        its address: 584 8 16777216\n\
+        its size in memory: 592 8 123457\n\
+        module: 608 4 4\n\
+        its size: 612 4 96\n\
+        its type: 620 4 2\n\
+        its address: 688 8 33554432\n\
+        its size in memory: 696 8 4096\n",
+    );
+    build::put_bytes(buf, 520, b"initrd\0");
+    build::put_bytes(
+        buf,
+        624,
+        b"aaaaaaaabbbbbbbbccccccccddddddddeeeeeeeeffffffffgggggggghhhhhhh\0",
+    );
 }
 
-// A module whose name fills its field up to the closing zero.
-fn long_name(buf: &mut [u8; 1024]) {
-    build::header(buf, 608, 4, 96);
-    build::put_u32(buf, 620, 2);
-    build::put_eight(buf, 624, b"aaaaaaaa");
-    build::put_eight(buf, 632, b"bbbbbbbb");
-    build::put_eight(buf, 640, b"cccccccc");
-    build::put_eight(buf, 648, b"dddddddd");
-    build::put_eight(buf, 656, b"eeeeeeee");
-    build::put_eight(buf, 664, b"ffffffff");
-    build::put_eight(buf, 672, b"gggggggg");
-    build::put_eight(buf, 680, b"hhhhhhh\0");
-    build::put_u64(buf, 688, 33554432);
-    build::put_u64(buf, 696, 4096);
-}
-
-fn framebuffer(buf: &mut [u8; 1024]) {
-    build::header(buf, 728, 6, 40);
-    build::put_u32(buf, 736, 1024);
-    build::put_u32(buf, 740, 768);
-    build::put_u32(buf, 744, 4100);
-    build::put_u16(buf, 748, 32);
-    build::put_u16(buf, 750, 3);
-    build::put_u64(buf, 752, 3489660928);
+// A command line, a framebuffer and an attribute of type 7.
+fn others(buf: &mut [u8; 1024]) {
+    build::put_rows(
+        buf,
+        b"\
+        command line: 704 4 5\n\
+        its size: 708 4 24\n\
+        framebuffer: 728 4 6\n\
+        its size: 732 4 40\n\
+        its width: 736 4 1024\n\
+        its height: 740 4 768\n\
+        its pitch: 744 4 4100\n\
+        its bits: 748 2 32\n\
+        its format: 750 2 3\n\
+        its address: 752 8 3489660928\n\
+        another: 768 4 7\n\
+        its size: 772 4 16\n",
+    );
+    build::put_bytes(buf, 712, b"quiet\0");
 }
 
 // Types 1, 2, 3, 4, 4, 5, 6 and 7 in 784 bytes.
@@ -80,13 +105,6 @@ pub fn every_type(buf: &mut [u8; 1024]) {
     build::head(buf, 8);
     platform(buf, 96);
     kernel(buf, 104, 344);
-    build::header(buf, 448, 3, 56);
-    build::entry(buf, 456, 72623859790382856, 4096, 1);
-    build::entry(buf, 480, 1230066625199609624, 8192, 2387509390608836392);
-    long_module(buf);
-    long_name(buf);
-    build::header(buf, 704, 5, 24);
-    build::put_eight(buf, 712, b"quiet\0\xa5\xa5");
-    framebuffer(buf);
-    build::header(buf, 768, 7, 16);
+    map_and_modules(buf);
+    others(buf);
 }

@@ -3,6 +3,39 @@
 mod attributes;
 mod context;
 
+use cases_text::table;
+
+// What a table's rows are given.
+enum Kind {
+    Every,
+    EveryStart,
+    Platform,
+    TypeZero,
+    Count,
+}
+
+fn case(kind: Kind, row: &[u8]) {
+    let label = table::label(row);
+    let values = table::numbers(row);
+    let given = values.numbers;
+    match kind {
+        Kind::Every => attributes::every(label, given),
+        Kind::EveryStart => attributes::every_start(label, given),
+        Kind::Platform => attributes::platform(label, given),
+        Kind::TypeZero => attributes::type_zero(label, given),
+        Kind::Count => attributes::count(label, given),
+    }
+}
+
+fn cases(kind: Kind, table: &[u8]) {
+    let mut at = 0;
+    while at < table.len() {
+        let end = table::end(table, at);
+        case(kind, &table[at..end]);
+        at = end;
+    }
+}
+
 fn main() {
     attributes::every_type();
     attributes::platforms();

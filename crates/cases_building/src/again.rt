@@ -1,6 +1,6 @@
 // What was read is added again, to a second buffer.
-use crate::lines;
 use cases_shared::show;
+use cases_text::print;
 use refusals::Answer;
 use ultra_format::Records;
 
@@ -55,25 +55,21 @@ fn all_of(from: &[u8; 1024], to: &mut [u8; 1024]) -> Answer {
     map(from, to)
 }
 
-fn compare(first: [u8; 1024], second: [u8; 1024]) {
-    lines::count(
-        b"bytes of the two contexts that differ: ",
-        show::differences(&first[0..736], &second[0..736]),
-    );
-}
-
-fn after(second: [u8; 1024]) {
-    let blank = [90u8; 1024];
-    lines::count(
-        b"bytes after the second that differ from 90: ",
-        show::differences(&second[736..1024], &blank[736..1024]),
+// The contexts, and what is after the second.
+fn compare(first: &[u8; 1024], second: &[u8; 1024], blank: &[u8; 1024]) {
+    print::form(
+        b"bytes of the two contexts that differ: #\nbytes after the second that differ from 90: #\n",
+        &[
+            print::differences_in(first, second, 0, 736) as u64,
+            print::differences_in(second, blank, 736, 1024) as u64,
+        ],
     );
 }
 
 // The context of every type, once more in a buffer of 90s.
 pub fn all(first: [u8; 1024]) {
-    let mut second = [90u8; 1024];
-    lines::call(b"read and added again", all_of(&first, &mut second));
-    compare(first, second);
-    after(second);
+    let blank = [90u8; 1024];
+    let mut second = blank;
+    show::call(b"read and added again", all_of(&first, &mut second));
+    compare(&first, &second, &blank);
 }

@@ -1,19 +1,19 @@
 // Beginning, in buffers of 165s.
-use crate::lines;
 use cases_shared::show;
+use cases_text::print;
 use refusals::Answer;
 
 fn begun(label: &[u8], answer: Answer, bytes: &[u8]) {
-    show::words(label);
+    print::words(label);
     show::answer(answer);
-    show::words(b", bytes");
-    show::bytes(bytes);
-    show::words(b"\n");
+    print::words(b", bytes");
+    print::bytes(bytes);
+    print::words(b"\n");
 }
 
 fn on_0() {
     let mut space = [165u8; 0];
-    lines::call(b"begin on 0 bytes", ultra_building::begin(&mut space));
+    show::call(b"begin on 0 bytes", ultra_building::begin(&mut space));
 }
 
 fn on_7() {

@@ -1,8 +1,8 @@
 // A context of every type, built in a buffer of 165s and read back.
-use crate::lines;
 use cases_shared::given;
 use cases_shared::members;
 use cases_shared::show;
+use cases_text::print;
 use refusals::Answer;
 use ultra_format::ModuleRecord;
 use ultra_questions::AttributeAnswer;
@@ -18,19 +18,19 @@ fn second_module() -> ModuleRecord {
 }
 
 fn front(buf: &mut [u8; 1024]) {
-    lines::call(b"every type, begin", ultra_building::begin(buf));
+    show::call(b"every type, begin", ultra_building::begin(buf));
     let platform = given::platform();
-    lines::call(
+    show::call(
         b"every type, platform",
         ultra_building::add_platform(buf, platform),
     );
     let kernel = given::kernel();
-    lines::call(
+    show::call(
         b"every type, kernel",
         ultra_building::add_kernel(buf, kernel),
     );
     let framebuffer = given::framebuffer();
-    lines::call(
+    show::call(
         b"every type, framebuffer",
         ultra_building::add_framebuffer(buf, framebuffer),
     );
@@ -38,23 +38,23 @@ fn front(buf: &mut [u8; 1024]) {
 
 fn modules(buf: &mut [u8; 1024]) {
     let first = given::module();
-    lines::call(
+    show::call(
         b"every type, module",
         ultra_building::add_module(buf, first),
     );
     let second = second_module();
-    lines::call(
+    show::call(
         b"every type, second module",
         ultra_building::add_module(buf, second),
     );
 }
 
 fn line_and_map(buf: &mut [u8; 1024]) {
-    lines::call(
+    show::call(
         b"every type, command line",
         ultra_building::add_command_line(buf, b"root=/x ro"),
     );
-    lines::call(
+    show::call(
         b"every type, map",
         ultra_building::add_map(
             buf,
@@ -73,11 +73,11 @@ fn found(answer: AttributeAnswer) {
 fn ask(buf: &[u8; 1024], index: u64) {
     let answer = ultra_questions::attribute(buf, index);
     let number = answer.answer;
-    show::number(b"index ", index);
+    print::number(b"index ", index);
     show::answer(number);
     match number {
         Answer::Done(_) => found(answer),
-        Answer::Refused(_) => show::words(b"\n"),
+        Answer::Refused(_) => print::words(b"\n"),
     }
 }
 
@@ -94,39 +94,44 @@ fn attributes(buf: &[u8; 1024]) {
 
 fn line(buf: &[u8; 1024]) {
     let part = ultra_questions::command_line_part(buf);
-    show::number(b"command line at ", part.start as u64);
-    show::number(b" length ", part.length as u64);
-    show::words(b" \"");
-    show::words(ultra_questions::command_line(buf));
-    show::words(b"\"\n");
+    print::number(b"command line at ", part.start as u64);
+    print::number(b" length ", part.length as u64);
+    print::words(b" \"");
+    print::words(ultra_questions::command_line(buf));
+    print::words(b"\"\n");
 }
 
 fn map(buf: &[u8; 1024]) {
     let mut out = [7u64; 8];
-    show::words(b"map copied out");
+    print::words(b"map copied out");
     show::answer(ultra_questions::copy_map(buf, &mut out));
-    show::words(b", output");
-    show::numbers(&out);
-    show::words(b"\n");
+    print::words(b", output");
+    print::numbers(&out);
+    print::words(b"\n");
 }
 
-fn silent(label: &[u8], bytes: &[u8]) {
-    show::words(label);
-    show::bytes(bytes);
-    show::words(b"\n");
+fn silent(label: &[u8], buf: &[u8], start: usize, length: usize) {
+    print::words(label);
+    if start < 1000 {
+        if length < 8 {
+            if 1024 <= buf.len() {
+                print::bytes(&buf[start..start + length]);
+            }
+        }
+    }
+    print::words(b"\n");
 }
 
-fn silent_bytes(space: [u8; 1024]) {
-    silent(b"silent bytes of the platform", &space[73..80]);
-    silent(b"silent bytes of the module", &space[472..476]);
-    silent(b"silent bytes of the second module", &space[568..572]);
+fn silent_bytes(buf: &[u8; 1024]) {
+    silent(b"silent bytes of the platform", buf, 73, 7);
+    silent(b"silent bytes of the module", buf, 472, 4);
+    silent(b"silent bytes of the second module", buf, 568, 4);
 }
 
-fn after(space: [u8; 1024]) {
-    let blank = [165u8; 1024];
-    lines::count(
-        b"bytes after the context that differ from 165: ",
-        show::differences(&space[736..1024], &blank[736..1024]),
+fn after(buf: &[u8; 1024], blank: &[u8; 1024]) {
+    print::form(
+        b"bytes after the context that differ from 165: #\n",
+        &[print::differences_in(buf, blank, 736, 1024) as u64],
     );
 }
 
@@ -139,12 +144,13 @@ fn read_back(space: &[u8; 1024]) {
 
 // Used length 736; types 1, 2, 6, 4, 4, 5 and 3. Answers the buffer.
 pub fn all() -> [u8; 1024] {
-    let mut space = [165u8; 1024];
+    let blank = [165u8; 1024];
+    let mut space = blank;
     front(&mut space);
     modules(&mut space);
     line_and_map(&mut space);
     read_back(&space);
-    silent_bytes(space);
-    after(space);
+    silent_bytes(&space);
+    after(&space, &blank);
     space
 }

@@ -1,7 +1,7 @@
 // The context of document 01's listing, built in a buffer of 165s.
-use crate::lines;
 use cases_shared::given;
 use cases_shared::show;
+use cases_text::print;
 use ultra_format::KernelRecord;
 use ultra_format::OptionalU8;
 use ultra_format::OptionalU64;
@@ -38,9 +38,9 @@ fn kernel() -> KernelRecord {
 }
 
 fn begin_and_platform(buf: &mut [u8; 512]) {
-    lines::call(b"listing, begin", ultra_building::begin(buf));
+    show::call(b"listing, begin", ultra_building::begin(buf));
     let record = platform();
-    lines::call(
+    show::call(
         b"listing, platform",
         ultra_building::add_platform(buf, record),
     );
@@ -49,12 +49,12 @@ fn begin_and_platform(buf: &mut [u8; 512]) {
 
 fn kernel_map_and_line(buf: &mut [u8; 512]) {
     let record = kernel();
-    lines::call(b"listing, kernel", ultra_building::add_kernel(buf, record));
-    lines::call(
+    show::call(b"listing, kernel", ultra_building::add_kernel(buf, record));
+    show::call(
         b"listing, map",
         ultra_building::add_map(buf, &[1048576, 1048576, 1]),
     );
-    lines::call(
+    show::call(
         b"listing, command line",
         ultra_building::add_command_line(buf, b"quiet"),
     );
@@ -62,26 +62,35 @@ fn kernel_map_and_line(buf: &mut [u8; 512]) {
 
 fn read(buf: &[u8; 512]) {
     show::reading(b"listing, read", ultra_reading::read(buf));
-    show::words(b"listing, bytes");
-    show::rows(buf);
-    show::words(b"\n");
+    print::words(b"listing, bytes");
+    print::rows(buf);
+    print::words(b"\n");
 }
 
 fn differences(left: &[u8; 512], right: &[u8; 512]) {
-    lines::count(b", bytes that differ ", show::differences(left, right));
+    print::form(
+        b", bytes that differ #\n",
+        &[print::differences_in(left, right, 0, 512) as u64],
+    );
+}
+
+fn head(buf: &[u8]) {
+    print::words(b", head");
+    if 8 <= buf.len() {
+        print::bytes(&buf[0..8]);
+    }
 }
 
 // A context is emptied by beginning it again; what was after its head stays.
 fn begin_again(built: [u8; 512]) {
     let mut space = built;
-    show::words(b"listing, begin again");
+    print::words(b"listing, begin again");
     show::answer(ultra_building::begin(&mut space));
-    show::words(b", head");
-    show::bytes(&space[0..8]);
+    head(&space);
     differences(&built, &space);
     show::reading(b"listing, begin again, read", ultra_reading::read(&space));
     let record = platform();
-    lines::call(
+    show::call(
         b"listing, begin again, platform",
         ultra_building::add_platform(&mut space, record),
     );

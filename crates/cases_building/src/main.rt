@@ -3,7 +3,6 @@
 mod again;
 mod begins;
 mod every;
-mod lines;
 mod listing;
 
 fn main() {

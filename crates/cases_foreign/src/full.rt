@@ -2,6 +2,7 @@
 use cases_adds::line;
 use cases_shared::given;
 use cases_shared::show;
+use cases_text::print;
 use ultra_format::FramebufferRecord;
 use ultra_format::PlatformRecord;
 
@@ -40,7 +41,7 @@ fn full(before: [u8; 8704]) -> [u8; 8704] {
 }
 
 fn changed(before: &[u8; 8704], after: &[u8; 8704]) -> usize {
-    show::differences(before, after)
+    print::differences(before, after)
 }
 
 fn platform(label: &[u8], before: [u8; 8704], record: PlatformRecord) {

@@ -1,6 +1,6 @@
 // What reading refuses is refused so when adding; a count below 2 is not.
 use cases_adds::context;
-use cases_shared::build;
+use cases_contexts::build;
 use cases_shared::given;
 
 // A framebuffer, added to a platform and a kernel with one byte changed.
@@ -13,7 +13,7 @@ fn framebuffer(label: &[u8], at: usize, byte: u8) {
 
 fn counts() {
     let mut buf = context::kernel();
-    build::put_u32(&mut buf, 4, 1025);
+    build::put(&mut buf, 4, 4, 1025);
     let record = given::framebuffer();
     cases_adds::framebuffer(b"framebuffer to a count of 1025", buf, record);
     build::put_byte(&mut buf, 0, 0);

@@ -1,33 +1,34 @@
 // The library's listing call on both sides of its boundary: outputs of 165s that are one byte too short, just long enough, longer, and
 // empty, for a refused buffer and for an accepted one. Whole listings are the samples' (crate list_context).
-use cases_shared::build;
+use cases_contexts::build;
 use cases_shared::show;
+use cases_text::print;
 
 // The first 12 bytes and the last; all where there are fewer.
 fn ends(bytes: &[u8]) {
-    show::words(b", bytes");
+    print::words(b", bytes");
     let n = bytes.len();
     if n < 12 {
-        show::bytes(bytes);
+        print::bytes(bytes);
         return;
     }
-    show::bytes(&bytes[0..12]);
-    show::words(b" ..");
-    show::bytes(&bytes[n - 1..]);
+    print::bytes(&bytes[0..12]);
+    print::words(b" ..");
+    print::bytes(&bytes[n - 1..]);
 }
 
 // What `list` answers, and what the output has afterwards.
 fn list(label: &[u8], buf: &[u8], out: &mut [u8]) {
-    show::words(label);
+    print::words(label);
     show::answer(ultra_listing::list(buf, out));
     ends(out);
-    show::words(b"\n");
+    print::words(b"\n");
 }
 
 fn length(label: &[u8], buf: &[u8]) {
-    show::words(label);
-    show::number(b": length ", ultra_listing::listing_length(buf) as u64);
-    show::words(b"\n");
+    print::words(label);
+    print::number(b": length ", ultra_listing::listing_length(buf) as u64);
+    print::words(b"\n");
 }
 
 // "H alone: HEADER at 8": `refused=5,8` and a newline are 12 bytes.

@@ -1,34 +1,39 @@
 // Command lines up to the room of a buffer that is longer than 65,536 bytes.
 use cases_adds::line;
 use cases_shared::given;
-use cases_shared::show;
+use cases_text::print;
 
-fn context() -> [u8; 66000] {
-    let mut buf = [165u8; 66000];
-    ultra_building::begin(&mut buf);
+fn context(buf: &mut [u8]) {
+    ultra_building::begin(buf);
     let platform = given::platform();
-    ultra_building::add_platform(&mut buf, platform);
+    ultra_building::add_platform(buf, platform);
     let kernel = given::kernel();
-    ultra_building::add_kernel(&mut buf, kernel);
-    buf
+    ultra_building::add_kernel(buf, kernel);
 }
 
-// Compares the buffers from byte 65,024 on.
-fn changed(before: [u8; 66000], after: [u8; 66000]) -> usize {
-    show::differences(&before[65024..66000], &after[65024..66000])
+// Adds the first `length` bytes of the text, and compares the buffers from byte 65,024 on.
+fn add(label: &[u8], buf: &mut [u8], before: &[u8], text: &[u8], length: usize) {
+    if length <= text.len() {
+        let answer = ultra_building::add_command_line(buf, &text[0..length]);
+        line(
+            label,
+            answer,
+            print::differences_in(before, buf, 65024, 66000),
+        );
+    }
 }
 
-fn command_line(label: &[u8], before: [u8; 66000], text: &[u8]) {
-    let mut after = before;
-    let answer = ultra_building::add_command_line(&mut after, text);
-    line(label, answer, changed(before, after));
+fn command_line(label: &[u8], length: usize, last: u8) {
+    let mut before = [165u8; 66000];
+    context(&mut before);
+    let mut buf = before;
+    let mut text = [b'a'; 66000];
+    text[65999] = last;
+    add(label, &mut buf, &before, &text, length);
 }
 
 pub fn all() {
-    let buf = context();
-    let mut text = [b'a'; 66000];
-    command_line(b"line of 65095 bytes", buf, &text[0..65095]);
-    command_line(b"line of 65096 bytes", buf, &text[0..65096]);
-    text[65999] = 128;
-    command_line(b"line of 66000 bytes, the last 128", buf, &text);
+    command_line(b"line of 65095 bytes", 65095, b'a');
+    command_line(b"line of 65096 bytes", 65096, b'a');
+    command_line(b"line of 66000 bytes, the last 128", 66000, 128);
 }

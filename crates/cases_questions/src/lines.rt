@@ -1,17 +1,17 @@
 // The command line.
-use cases_shared::build;
-use cases_shared::show;
+use cases_contexts::build;
+use cases_text::print;
 
 fn line(label: &[u8], buf: &[u8; 1024]) {
     let part = ultra_questions::command_line_part(buf);
-    show::words(label);
-    show::number(b": part at ", part.start as u64);
-    show::number(b" length ", part.length as u64);
     let text = ultra_questions::command_line(buf);
-    show::number(b", bytes handed back ", text.len() as u64);
-    show::words(b" \"");
-    show::words(text);
-    show::words(b"\"\n");
+    print::words(label);
+    print::form(
+        b": part at # length #, bytes handed back # \"",
+        &[part.start as u64, part.length as u64, text.len() as u64],
+    );
+    print::words(text);
+    print::words(b"\"\n");
 }
 
 // A context with an empty command line of 32 bytes at 432; after it an attribute of type 0, which a count of 4 takes in.
@@ -26,8 +26,7 @@ fn context(buf: &mut [u8; 1024]) {
 fn counts() {
     let mut space = [0u8; 1024];
     context(&mut space);
-    build::put_eight(&mut space, 440, b"quiet sp");
-    build::put_eight(&mut space, 448, b"lash\0\0\0\0");
+    build::put_bytes(&mut space, 440, b"quiet splash");
     line(b"text", &space);
     build::head(&mut space, 2);
     line(b"line past the count", &space);
@@ -39,27 +38,21 @@ fn counts() {
 fn full() {
     let mut space = [0u8; 1024];
     context(&mut space);
-    build::put_eight(&mut space, 440, b"quiet sp");
-    build::put_eight(&mut space, 448, b"lash, an");
-    build::put_eight(&mut space, 456, b"d more.\0");
+    build::put_bytes(&mut space, 440, b"quiet splash, and more.");
     line(b"text up to its last byte", &space);
     build::put_byte(&mut space, 463, b'.');
     line(b"text that is not closed", &space);
-}
-
-fn junk(buf: &mut [u8; 1024], at: usize) {
-    build::put_eight(buf, at, b"\xa5\xa5\xa5\xa5\xa5\xa5\xa5\xa5");
 }
 
 fn junk_after() {
     let mut space = [0u8; 1024];
     context(&mut space);
     line(b"empty text", &space);
-    junk(&mut space, 448);
-    junk(&mut space, 456);
-    build::put_eight(&mut space, 440, b"\0unheard");
+    build::put(&mut space, 448, 8, 0xa5a5_a5a5_a5a5_a5a5);
+    build::put(&mut space, 456, 8, 0xa5a5_a5a5_a5a5_a5a5);
+    build::put_bytes(&mut space, 440, b"\0unheard");
     line(b"empty text, junk after", &space);
-    build::put_eight(&mut space, 440, b"ro\0rw\0\xa5\xa5");
+    build::put_bytes(&mut space, 440, b"ro\0rw\0\xa5\xa5");
     line(b"text, junk after", &space);
 }
 
@@ -72,7 +65,7 @@ fn after_others() {
     build::header(&mut space, 448, 7, 8);
     build::header(&mut space, 456, 3, 8);
     build::header(&mut space, 464, 5, 16);
-    build::put_eight(&mut space, 472, b"1234567\0");
+    build::put_bytes(&mut space, 472, b"1234567\0");
     line(b"line after others", &space);
 }
 

@@ -1,129 +1,129 @@
 // Which module holds an address.
-use cases_shared::build;
+use crate::Kind;
+use crate::cases;
+use cases_contexts::build;
 use cases_shared::show;
+use cases_text::print;
 
 fn ask(label: &[u8], buf: &[u8; 1024], address: u64) {
-    show::words(label);
-    show::number(b", address ", address);
+    print::words(label);
+    print::number(b", address ", address);
     show::answer(ultra_questions::module_holding(buf, address));
-    show::words(b"\n");
+    print::words(b"\n");
 }
 
-fn one(buf: &mut [u8; 1024], address: u64, size: u64) {
-    build::head(buf, 3);
-    build::platform_and_kernel(buf, 88);
-    build::module(buf, 432, address, size);
+fn with_one(count: u64, address: u64, size: u64) -> [u8; 1024] {
+    let mut buf = [0u8; 1024];
+    build::head(&mut buf, count);
+    build::platform_and_kernel(&mut buf, 88);
+    build::module(&mut buf, 432, address, size);
+    buf
 }
 
-fn bounds() {
-    let mut space = [0u8; 1024];
-    one(&mut space, 2097152, 5000);
-    ask(b"module of 5000 at 2097152", &space, 2097151);
-    ask(b"module of 5000 at 2097152", &space, 2097152);
-    ask(b"module of 5000 at 2097152", &space, 2102151);
-    ask(b"module of 5000 at 2097152", &space, 2102152);
-    ask(b"module of 5000 at 2097152", &space, 4297064448);
+// The module's address and size, and the address asked for.
+pub fn one(label: &[u8], given: [u64; 6]) {
+    let buf = with_one(3, given[0], given[1]);
+    ask(label, &buf, given[2]);
 }
 
-fn empty() {
-    let mut space = [0u8; 1024];
-    one(&mut space, 4096, 0);
-    ask(b"module of 0 at 4096", &space, 4095);
-    ask(b"module of 0 at 4096", &space, 4096);
-    ask(b"module of 0 at 4096", &space, 4097);
+fn ones() {
+    cases(
+        Kind::OneModule,
+        b"\
+        module of 5000 at 2097152: 2097152 5000 2097151\n\
+        module of 5000 at 2097152: 2097152 5000 2097152\n\
+        module of 5000 at 2097152: 2097152 5000 2102151\n\
+        module of 5000 at 2097152: 2097152 5000 2102152\n\
+        module of 5000 at 2097152: 2097152 5000 4297064448\n\
+        module of 0 at 4096: 4096 0 4095\n\
+        module of 0 at 4096: 4096 0 4096\n\
+        module of 0 at 4096: 4096 0 4097\n\
+        module that ends at 2^64: 18446744073709547520 4096 18446744073709547519\n\
+        module that ends at 2^64: 18446744073709547520 4096 18446744073709547520\n\
+        module that ends at 2^64: 18446744073709547520 4096 18446744073709551615\n\
+        module that ends at 2^64: 18446744073709547520 4096 0\n\
+        module of 2^64 - 1 at 0: 0 18446744073709551615 0\n\
+        module of 2^64 - 1 at 0: 0 18446744073709551615 18446744073709551614\n\
+        module of 2^64 - 1 at 0: 0 18446744073709551615 18446744073709551615\n",
+    );
 }
 
-fn at_the_top() {
-    let mut space = [0u8; 1024];
-    one(&mut space, 18446744073709547520, 4096);
-    ask(b"module that ends at 2^64", &space, 18446744073709547519);
-    ask(b"module that ends at 2^64", &space, 18446744073709547520);
-    ask(b"module that ends at 2^64", &space, 18446744073709551615);
-    ask(b"module that ends at 2^64", &space, 0);
+fn with_two(first: u64, first_size: u64, second: u64, second_size: u64) -> [u8; 1024] {
+    let mut buf = with_one(4, first, first_size);
+    build::module(&mut buf, 528, second, second_size);
+    buf
 }
 
-fn at_the_bottom() {
-    let mut space = [0u8; 1024];
-    one(&mut space, 0, 18446744073709551615);
-    ask(b"module of 2^64 - 1 at 0", &space, 0);
-    ask(b"module of 2^64 - 1 at 0", &space, 18446744073709551614);
-    ask(b"module of 2^64 - 1 at 0", &space, 18446744073709551615);
+// The address and the size of each of two modules, and the address asked for.
+pub fn two(label: &[u8], given: [u64; 6]) {
+    let buf = with_two(given[0], given[1], given[2], given[3]);
+    ask(label, &buf, given[4]);
 }
 
-// Two modules at 432 and 528.
-fn two(buf: &mut [u8; 1024], first: u64, first_size: u64, second: u64, second_size: u64) {
-    build::head(buf, 4);
-    build::platform_and_kernel(buf, 88);
-    build::module(buf, 432, first, first_size);
-    build::module(buf, 528, second, second_size);
-}
-
-fn second_lower() {
-    let mut space = [0u8; 1024];
-    two(&mut space, 8192, 8192, 4096, 8192);
-    ask(b"second starts lower", &space, 4095);
-    ask(b"second starts lower", &space, 4096);
-    ask(b"second starts lower", &space, 8191);
-    ask(b"second starts lower", &space, 8192);
-    ask(b"second starts lower", &space, 12287);
-    ask(b"second starts lower", &space, 16383);
-    ask(b"second starts lower", &space, 16384);
-}
-
-fn first_lower() {
-    let mut space = [0u8; 1024];
-    two(&mut space, 4096, 8192, 8192, 8192);
-    ask(b"first starts lower", &space, 8191);
-    ask(b"first starts lower", &space, 8192);
-    ask(b"first starts lower", &space, 12287);
-    ask(b"first starts lower", &space, 12288);
-}
-
-fn first_empty() {
-    let mut space = [0u8; 1024];
-    two(&mut space, 4096, 0, 4096, 1);
-    ask(b"first is empty", &space, 4096);
+fn twos() {
+    cases(
+        Kind::TwoModules,
+        b"\
+        second starts lower: 8192 8192 4096 8192 4095\n\
+        second starts lower: 8192 8192 4096 8192 4096\n\
+        second starts lower: 8192 8192 4096 8192 8191\n\
+        second starts lower: 8192 8192 4096 8192 8192\n\
+        second starts lower: 8192 8192 4096 8192 12287\n\
+        second starts lower: 8192 8192 4096 8192 16383\n\
+        second starts lower: 8192 8192 4096 8192 16384\n\
+        first starts lower: 4096 8192 8192 8192 8191\n\
+        first starts lower: 4096 8192 8192 8192 8192\n\
+        first starts lower: 4096 8192 8192 8192 12287\n\
+        first starts lower: 4096 8192 8192 8192 12288\n\
+        first is empty: 4096 0 4096 1 4096\n",
+    );
 }
 
 // In place of the first module an attribute of type 7 with the same bytes.
-fn looks_like_a_module() {
-    let mut space = [0u8; 1024];
-    two(&mut space, 8192, 8192, 12288, 8192);
-    build::header(&mut space, 432, 7, 96);
-    ask(b"type 7 that looks like a module", &space, 8192);
-    ask(b"type 7 that looks like a module", &space, 12288);
+pub fn seven_and_module(label: &[u8], given: [u64; 6]) {
+    let mut buf = with_two(8192, 8192, 12288, 8192);
+    build::header(&mut buf, 432, 7, 96);
+    ask(label, &buf, given[0]);
 }
 
 // The kernel's bytes 80..95, where a module has its address and size, hold 47 and 4096; and the module is past the count.
-fn no_module() {
-    let mut space = [0u8; 1024];
-    one(&mut space, 4096, 4096);
-    build::head(&mut space, 2);
-    build::put_u64(&mut space, 184, 4096);
-    ask(b"no module", &space, 0);
-    ask(b"no module", &space, 47);
-    ask(b"no module", &space, 4096);
+pub fn none(label: &[u8], given: [u64; 6]) {
+    let mut buf = with_one(2, 4096, 4096);
+    build::put(&mut buf, 184, 8, 4096);
+    ask(label, &buf, given[0]);
 }
 
 // The first module is sound and holds the address, and what follows it is refused.
-fn refused() {
-    let mut space = [0u8; 1024];
-    one(&mut space, 4096, 4096);
-    build::head(&mut space, 4);
-    build::header(&mut space, 528, 0, 8);
-    ask(b"fourth of type 0", &space, 4096);
-    ask(b"fourth of type 0", &space, 0);
+pub fn and_type_zero(label: &[u8], given: [u64; 6]) {
+    let mut buf = with_one(4, 4096, 4096);
+    build::header(&mut buf, 528, 0, 8);
+    ask(label, &buf, given[0]);
+}
+
+fn others() {
+    cases(
+        Kind::SevenAndModule,
+        b"\
+        type 7 that looks like a module: 8192\n\
+        type 7 that looks like a module: 12288\n",
+    );
+    cases(
+        Kind::NoModule,
+        b"\
+        no module: 0\n\
+        no module: 47\n\
+        no module: 4096\n",
+    );
+    cases(
+        Kind::ModuleAndTypeZero,
+        b"\
+        fourth of type 0: 4096\n\
+        fourth of type 0: 0\n",
+    );
 }
 
 pub fn all() {
-    bounds();
-    empty();
-    at_the_top();
-    at_the_bottom();
-    second_lower();
-    first_lower();
-    first_empty();
-    looks_like_a_module();
-    no_module();
-    refused();
+    ones();
+    twos();
+    others();
 }

@@ -6,27 +6,33 @@ use ultra_format::OptionalU8;
 use ultra_format::OptionalU64;
 use ultra_format::PlatformRecord;
 
-// Texts that begin with eight bytes as they are, and zeros after them.
-pub fn name(front: &[u8; 8]) -> [u8; 32] {
+// Fields that begin with a text, and zeros after it.
+pub fn name(text: &[u8]) -> [u8; 32] {
     let mut name = [0u8; 32];
-    words::store_u64(&mut name, 0, words::load_u64(front, 0));
+    if text.len() <= 32 {
+        byte_layout::store(text, &mut name, 0);
+    }
     name
 }
 
-pub fn module_name(front: &[u8; 8]) -> [u8; 64] {
+pub fn module_name(text: &[u8]) -> [u8; 64] {
     let mut name = [0u8; 64];
-    words::store_u64(&mut name, 0, words::load_u64(front, 0));
+    if text.len() <= 64 {
+        byte_layout::store(text, &mut name, 0);
+    }
     name
 }
 
-pub fn path(front: &[u8; 8]) -> [u8; 256] {
+pub fn path(text: &[u8]) -> [u8; 256] {
     let mut path = [0u8; 256];
-    words::store_u64(&mut path, 0, words::load_u64(front, 0));
+    if text.len() <= 256 {
+        byte_layout::store(text, &mut path, 0);
+    }
     path
 }
 
 pub fn platform() -> PlatformRecord {
-    let name = name(b"frost\0\0\0");
+    let name = name(b"frost");
     PlatformRecord {
         kind: 3,
         loader_major: 5,
@@ -43,7 +49,7 @@ pub fn platform() -> PlatformRecord {
 pub fn kernel() -> KernelRecord {
     let disk_guid = *b"0123456789ABCDEF";
     let partition_guid = *b"GHIJKLMNOPQRSTUV";
-    let path = path(b"/boot/k\0");
+    let path = path(b"/boot/k");
     KernelRecord {
         physical_base: 2097152,
         virtual_base: 18446744071564165120,
@@ -58,7 +64,7 @@ pub fn kernel() -> KernelRecord {
 }
 
 pub fn module() -> ModuleRecord {
-    let name = module_name(b"initrd\0\0");
+    let name = module_name(b"initrd");
     ModuleRecord {
         kind: 1,
         name,

@@ -1,5 +1,4 @@
-// What the programs that run cases share: contexts by hand, records to add, and words for answers.
-pub mod build;
+// What the programs that run cases share: records to add, and lines for answers.
 pub mod given;
 pub mod members;
 pub mod show;

@@ -1,5 +1,5 @@
 // The members of a record, line by line.
-use crate::show;
+use cases_text::print;
 use ultra_format::FramebufferRecord;
 use ultra_format::KernelRecord;
 use ultra_format::ModuleRecord;
@@ -9,49 +9,44 @@ use ultra_format::PlatformRecord;
 use ultra_format::Records;
 
 fn optional_u64(before: &[u8], member: OptionalU64) {
-    show::words(before);
+    print::words(before);
     match member {
-        OptionalU64::Present(value) => show::number(b" ", value),
-        OptionalU64::Absent => show::words(b" -"),
+        OptionalU64::Present(value) => print::number(b" ", value),
+        OptionalU64::Absent => print::words(b" -"),
     }
 }
 
 fn optional_u8(before: &[u8], member: OptionalU8) {
-    show::words(before);
+    print::words(before);
     match member {
-        OptionalU8::Present(value) => show::number(b" ", value as u64),
-        OptionalU8::Absent => show::words(b" -"),
+        OptionalU8::Present(value) => print::number(b" ", value as u64),
+        OptionalU8::Absent => print::words(b" -"),
     }
 }
 
 // A callee that names the array's length owes no proof of it.
 fn platform_name(name: &[u8; 32]) {
-    show::words(b", name ");
-    show::field(name);
+    print::words(b", name ");
+    print::field(name);
 }
 
 fn module_name(name: &[u8; 64]) {
-    show::words(b", name ");
-    show::field(name);
+    print::words(b", name ");
+    print::field(name);
 }
 
 fn guid(before: &[u8], guid: &[u8; 16]) {
-    show::words(before);
-    show::bytes(guid);
+    print::words(before);
+    print::bytes(guid);
 }
 
 fn path(path: &[u8; 256]) {
-    show::words(b"\n  path ");
-    show::field(path);
+    print::words(b"\n  path ");
+    print::field(path);
 }
 
-pub fn platform(record: PlatformRecord) {
-    show::number(b"  platform type ", record.kind as u64);
-    show::number(b", loader ", record.loader_major as u64);
-    show::number(b".", record.loader_minor as u64);
-    let name = record.name;
-    platform_name(&name);
-    show::number(b", rsdp ", record.rsdp);
+// The members that a platform may lack.
+fn late_members(record: PlatformRecord) {
     let higher_half_base = record.higher_half_base;
     optional_u64(b"\n  higher half base", higher_half_base);
     let depth = record.depth;
@@ -60,42 +55,64 @@ pub fn platform(record: PlatformRecord) {
     optional_u64(b", dtb", dtb);
     let smbios = record.smbios;
     optional_u64(b", smbios", smbios);
-    show::words(b"\n");
+    print::words(b"\n");
+}
+
+pub fn platform(record: PlatformRecord) {
+    print::form(
+        b"  platform type #, loader #.#",
+        &[
+            record.kind as u64,
+            record.loader_major as u64,
+            record.loader_minor as u64,
+        ],
+    );
+    let name = record.name;
+    platform_name(&name);
+    print::number(b", rsdp ", record.rsdp);
+    late_members(record);
 }
 
 pub fn kernel(record: KernelRecord) {
-    show::number(b"  kernel physical base ", record.physical_base);
-    show::number(b", virtual base ", record.virtual_base);
-    show::number(b", size ", record.size);
-    show::number(b"\n  partition type ", record.partition_type);
-    show::number(b", disk ", record.disk_index as u64);
-    show::number(b", partition ", record.partition_index as u64);
+    print::form(
+        b"  kernel physical base #, virtual base #, size #\n  partition type #, disk #, partition #",
+        &[
+            record.physical_base,
+            record.virtual_base,
+            record.size,
+            record.partition_type,
+            record.disk_index as u64,
+            record.partition_index as u64,
+        ],
+    );
     let disk_guid = record.disk_guid;
     guid(b"\n  disk guid", &disk_guid);
     let partition_guid = record.partition_guid;
     guid(b"\n  partition guid", &partition_guid);
     let kernel_path = record.path;
     path(&kernel_path);
-    show::words(b"\n");
+    print::words(b"\n");
 }
 
 pub fn module(record: ModuleRecord) {
-    show::number(b"  module type ", record.kind as u64);
+    print::number(b"  module type ", record.kind as u64);
     let name = record.name;
     module_name(&name);
-    show::number(b", address ", record.address);
-    show::number(b", size ", record.size);
-    show::words(b"\n");
+    print::form(b", address #, size #\n", &[record.address, record.size]);
 }
 
 pub fn framebuffer(record: FramebufferRecord) {
-    show::number(b"  framebuffer width ", record.width as u64);
-    show::number(b", height ", record.height as u64);
-    show::number(b", pitch ", record.pitch as u64);
-    show::number(b", bpp ", record.bpp as u64);
-    show::number(b", format ", record.format as u64);
-    show::number(b", address ", record.address);
-    show::words(b"\n");
+    print::form(
+        b"  framebuffer width #, height #, pitch #, bpp #, format #, address #\n",
+        &[
+            record.width as u64,
+            record.height as u64,
+            record.pitch as u64,
+            record.bpp as u64,
+            record.format as u64,
+            record.address,
+        ],
+    );
 }
 
 // The members of the attribute's own record; of types 3, 5 and 7 there is none.

@@ -1,10 +1,10 @@
--- `cases_shared::show::bytes` ends and stays within the bytes.
+-- `cases_text::print::bytes` ends and stays within the bytes.
 -- Assumes nothing.
 use Prim.Native.Nat.{_-_, _≤_}
 use borrow.Author.Needs.{needs}
 use lib.ListN.{length}
-use Rattle.cases_shared.proofs.show.bytes.Statement.{statement}
-use Rattle.cases_shared.proofs.show.bytes.Tie as tie
+use Rattle.cases_text.proofs.print.bytes.Statement.{statement}
+use Rattle.cases_text.proofs.print.bytes.Tie as tie
 
 abbrev Inv-loop : tie.InvT-loop
 Inv-loop bytes i₀ i = i ≤ length bytes

@@ -1,10 +1,10 @@
--- `cases_shared::show::numbers` ends and stays within the numbers.
+-- `cases_text::print::numbers` ends and stays within the numbers.
 -- Assumes nothing.
 use Prim.Native.Nat.{_-_, _≤_}
 use borrow.Author.Needs.{needs}
 use lib.ListN.{length}
-use Rattle.cases_shared.proofs.show.numbers.Statement.{statement}
-use Rattle.cases_shared.proofs.show.numbers.Tie as tie
+use Rattle.cases_text.proofs.print.numbers.Statement.{statement}
+use Rattle.cases_text.proofs.print.numbers.Tie as tie
 
 abbrev Inv-loop : tie.InvT-loop
 Inv-loop numbers i₀ t3 i = i ≤ length numbers

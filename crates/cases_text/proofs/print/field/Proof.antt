@@ -1,10 +1,10 @@
--- `cases_shared::show::field` ends, stays within the bytes and counts no more zeros than bytes.
+-- `cases_text::print::field` ends, stays within the bytes and counts no more zeros than bytes.
 -- Assumes nothing.
 use Prim.Native.Nat.{_-_, _≤_}
 use borrow.Author.Needs.{needs}
 use lib.ListN.{length}
-use Rattle.cases_shared.proofs.show.field.Statement.{statement}
-use Rattle.cases_shared.proofs.show.field.Tie as tie
+use Rattle.cases_text.proofs.print.field.Statement.{statement}
+use Rattle.cases_text.proofs.print.field.Tie as tie
 
 abbrev Inv-loop : tie.InvT-loop
 Inv-loop bytes zeros₀ i₀ n zeros i = (i ≤ length bytes) × (zeros ≤ i)

@@ -1,10 +1,10 @@
--- `cases_shared::show::differences` ends, stays within both and counts no more than there are.
+-- `cases_text::print::differences` ends, stays within both and counts no more than there are.
 -- Assumes nothing.
 use Prim.Native.Nat.{_-_, _≤_}
 use borrow.Author.Needs.{needs}
 use lib.ListN.{length}
-use Rattle.cases_shared.proofs.show.differences.Statement.{statement}
-use Rattle.cases_shared.proofs.show.differences.Tie as tie
+use Rattle.cases_text.proofs.print.differences.Statement.{statement}
+use Rattle.cases_text.proofs.print.differences.Tie as tie
 
 abbrev Inv-loop : tie.InvT-loop
 Inv-loop left right n₀ i₀ n i = (i ≤ length left) × (n ≤ i)

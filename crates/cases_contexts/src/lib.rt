@@ -1,0 +1,2 @@
+// Contexts by hand, for the programs that run cases.
+pub mod build;
