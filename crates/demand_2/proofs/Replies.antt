@@ -42,7 +42,7 @@ use Rattle.ultra_questions.specs.QuestionRefusals.{PassesOn}
 use Rattle.ultra_questions.specs.declared.attributes.AttributeAnswer.{AttributeAnswer}
 use Rattle.ultra_questions.specs.AttributeQuestion.{attributeAnswer}
 use Rattle.ultra_questions.specs.MapQuestion.{mapCopied, mapCopiedBytes, overBytes}
-use Rattle.ultra_listing.specs.Listing.{contextLines, refusedLines, linesOf, textListed, listed}
+use Rattle.listing_format.specs.Listing.{contextLines, refusedLines, linesOf, textListed, listed}
 use Rattle.ultra_questions.proofs.ByContext.{questions-by-context}
 use Rattle.ultra_questions.proofs.QuestionRefusals.{refusals-pass-on}
 use Rattle.ultra_building.specs.Building.{addedAt}

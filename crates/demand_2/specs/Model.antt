@@ -33,7 +33,7 @@ use Rattle.ultra_questions.specs.MapQuestion.{numbers, mapIn, overBytes}
 use Rattle.ultra_questions.specs.CommandLineQuestion.{commandLineIn, textIn}
 use Rattle.ultra_questions.specs.ModuleQuestion.{moduleIn}
 use Rattle.ultra_building.specs.Building.{appendCheck}
-use Rattle.ultra_listing.specs.Listing.{contextLines, refusedLines, textListed}
+use Rattle.listing_format.specs.Listing.{contextLines, refusedLines, textListed}
 use Rattle.demand_2.specs.Calls.{Members, membersFormed, membersBody, Call, Reply}
 use Rattle.demand_2.specs.Calls.{Call.begin, Call.add, Call.addMembers, Call.read, Call.step, Call.askAttribute, Call.askStart, Call.askPart, Call.copyMap, Call.copyMapBytes, Call.askLine, Call.locateLine, Call.askModule, Call.list, Call.askListingLength}
 use Rattle.demand_2.specs.Calls.{Reply.answer, Reply.reading, Reply.stepped, Reply.attribute, Reply.located, Reply.lent, Reply.copied, Reply.number}

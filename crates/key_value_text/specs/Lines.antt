@@ -3,7 +3,7 @@
 use Prim.Native.Nat.{ℕ}
 use Prim.Native.Char.{code}
 use mathlib.Core.List.{List, [], _∷_, _++_}
-use Rattle.key_value_text.specs.Spelling.{each, joined, hexPair, spelled}
+use Rattle.text_output.specs.Spelling.{each, joined, hexPair, spelled}
 
 -- `numbers c ns`: the numbers ns with the character c between them
 -- `text t`: the bytes t, escaped

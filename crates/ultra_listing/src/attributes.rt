@@ -3,12 +3,12 @@ ghost use mathlib.Core.Path.{_≡_};
 ghost use mathlib.Core.Bool.{true};
 ghost use Prim.Native.Nat.{_+_, _≤_};
 ghost use lib.ListN.{length};
-ghost use Rattle.key_value_text.specs.Output.{puts};
+ghost use Rattle.text_output.specs.Output.{puts};
 ghost use Rattle.key_value_text.specs.Lines.{linesBytes};
 ghost use Rattle.ultra_format.specs.Members.{sizeSuits};
 ghost use Rattle.ultra_format.specs.Decoding.{decoded, storedCount, attributesFrom};
 ghost use Rattle.ultra_questions.specs.Passing.{Accepts};
-ghost use Rattle.ultra_listing.specs.Listing.{bodyLines, attributesLines};
+ghost use Rattle.listing_format.specs.Listing.{bodyLines, attributesLines};
 
 // The attribute of type `kind` in the `size` bytes from `at` on.
 fn attribute(out: &mut [u8], to: u32, buf: &[u8], at: usize, size: u32, kind: u32) -> u32
@@ -17,13 +17,13 @@ fn attribute(out: &mut [u8], to: u32, buf: &[u8], at: usize, size: u32, kind: u3
     ensures { λ r. ⌜ (now (out .exit), r) ≡ puts (now (out .entry), to) (linesBytes (bodyLines size (decoded (now (buf .entry)) at size kind))) ⌝ }
 {
     match kind {
-        1 => crate::platform::write(out, to, buf, at, size),
-        2 => crate::kernel::write(out, to, buf, at),
-        3 => crate::map::write(out, to, buf, at, size),
-        4 => crate::module::write(out, to, buf, at),
+        1 => listing_lines::platform::write(out, to, buf, at, size),
+        2 => listing_lines::kernel::write(out, to, buf, at),
+        3 => listing_lines::map::write(out, to, buf, at, size),
+        4 => listing_lines::module::write(out, to, buf, at),
         5 => key_value_text::text_line(out, to, b"cmdline", buf, at + 8, size as usize - 8),
-        6 => crate::framebuffer::write(out, to, buf, at),
-        _ => crate::numbers::two(out, to, b"other", b',', kind as u64, size as u64),
+        6 => listing_lines::framebuffer::write(out, to, buf, at),
+        _ => listing_lines::numbers::two(out, to, b"other", b',', kind as u64, size as u64),
     }
 }
 

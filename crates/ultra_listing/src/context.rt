@@ -1,13 +1,13 @@
 // A whole listing: of an accepted context, and of a refused one.
 ghost use mathlib.Core.Path.{_≡_};
-ghost use Rattle.key_value_text.specs.Output.{puts};
+ghost use Rattle.text_output.specs.Output.{puts};
 ghost use Rattle.key_value_text.specs.Lines.{linesBytes};
 ghost use Rattle.ultra_format.specs.Contexts.{used as used·of};
 ghost use Rattle.ultra_format.specs.Decoding.{contextOf};
 ghost use Rattle.ultra_questions.specs.Passing.{Accepts};
-ghost use Rattle.ultra_listing.specs.Listing.{contextLines, refusedLines};
-use crate::numbers::one;
-use crate::numbers::two;
+ghost use Rattle.listing_format.specs.Listing.{contextLines, refusedLines};
+use listing_lines::numbers::one;
+use listing_lines::numbers::two;
 use refusals::Refusal;
 
 pub fn refused(out: &mut [u8], refusal: Refusal) -> u32

@@ -4,9 +4,9 @@ use mathlib.Core.List.{List}
 use mathlib.Core.Path.{sym, ap, _∙_}
 use denote.Ref.{now}
 use Rattle.key_value_text.specs.Lines.{Line, linesBytes}
-use Rattle.key_value_text.specs.Output.{puts}
+use Rattle.text_output.specs.Output.{puts}
 use Rattle.ultra_format.specs.Decoding.{contextOf}
-use Rattle.ultra_listing.specs.Listing.{linesOf, linesWhen}
+use Rattle.listing_format.specs.Listing.{linesOf, linesWhen}
 use Rattle.ultra_questions.specs.Passing.{Accepts}
 use Rattle.ultra_questions.proofs.Located.{used-is}
 use borrow.Author.Needs.{needs}

@@ -10,12 +10,12 @@ use lib.ListN.{length}
 use denote.Ref.{now}
 use Rattle.words.specs.Words.{u32At}
 use Rattle.key_value_text.specs.Lines.{Line, linesBytes}
-use Rattle.key_value_text.specs.Output.{puts}
+use Rattle.text_output.specs.Output.{puts}
 use Rattle.ultra_format.specs.Decoding.{start, storedType, storedSize, attributesFrom}
 use Rattle.ultra_reading.proofs.WalkLaws.{start-next}
 use Rattle.ultra_questions.proofs.Located.{Inside, head-inside, inside}
-use Rattle.ultra_listing.proofs.LineLaws.{lines-at, suits-at, attribute-next, attribute-end}
-use Rattle.ultra_listing.specs.Listing.{attributesLines}
+use Rattle.listing_format.proofs.LineLaws.{lines-at, suits-at, attribute-next, attribute-end}
+use Rattle.listing_format.specs.Listing.{attributesLines}
 use borrow.Author.Needs.{needs}
 use Rattle.ultra_listing.proofs.attributes.all.Statement.{statement}
 use Rattle.ultra_listing.proofs.attributes.all.Tie as tie

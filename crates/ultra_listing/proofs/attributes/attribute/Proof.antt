@@ -2,11 +2,11 @@
 -- Assumes nothing.
 use native.Mathlib.Omega.{arith}
 use denote.Ref.{now}
-use Rattle.key_value_text.proofs.Puts.{last-line}
+use Rattle.key_value_text.proofs.LinePuts.{last-line}
 use Rattle.ultra_format.proofs.Sizes.{platform-least, kernel-least, module-least, framebuffer-least}
 use Rattle.ultra_format.specs.Decoding.{decoded}
-use Rattle.ultra_listing.proofs.LineLaws.{decoded-other}
-use Rattle.ultra_listing.specs.Listing.{bodyLines}
+use Rattle.listing_format.proofs.LineLaws.{decoded-other}
+use Rattle.listing_format.specs.Listing.{bodyLines}
 use borrow.Author.Needs.{needs}
 use Rattle.ultra_listing.proofs.attributes.attribute.Statement.{statement}
 use Rattle.ultra_listing.proofs.attributes.attribute.Tie as tie

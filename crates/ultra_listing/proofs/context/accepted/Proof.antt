@@ -2,8 +2,8 @@
 -- Assumes nothing.
 use native.Mathlib.Omega.{arith}
 use denote.Ref.{now}
-use Rattle.key_value_text.proofs.Puts.{line-then, last-line, lines-then}
-use Rattle.ultra_listing.proofs.LineLaws.{context-lines}
+use Rattle.key_value_text.proofs.LinePuts.{line-then, last-line, lines-then}
+use Rattle.listing_format.proofs.LineLaws.{context-lines}
 use Rattle.ultra_questions.proofs.Located.{head-inside}
 use borrow.Author.Needs.{needs}
 use Rattle.ultra_listing.proofs.context.accepted.Statement.{statement}

@@ -1,6 +1,6 @@
 -- `context::refused` meets its contract.
 -- Assumes nothing.
-use Rattle.key_value_text.proofs.Puts.{last-line}
+use Rattle.key_value_text.proofs.LinePuts.{last-line}
 use borrow.Author.Needs.{needs}
 use Rattle.ultra_listing.proofs.context.refused.Statement.{statement}
 use Rattle.ultra_listing.proofs.context.refused.Tie as tie
