@@ -11,8 +11,8 @@ use lib.ListN.{length, getD}
 use Rattle.words.specs.Words.{numberAt}
 use Rattle.byte_layout.specs.Stored.{bytesAt}
 use Rattle.text_output.specs.Output.{State, puts}
-use Rattle.key_value_text.specs.Lines.{lineBytes, linesBytes}
-use Rattle.key_value_text.proofs.LinePuts.{line-then, lines-then, no-lines}
+use Rattle.key_value_text.specs.Lines.{lineBytes, putLines}
+use Rattle.key_value_text.proofs.LinePuts.{lines-append}
 use Rattle.ultra_format.specs.Contexts.{Body, Body.other, used}
 use Rattle.ultra_format.specs.Decoding.{decoded, entryAt, entriesAt, start, storedType, storedSize, storedCount, storedAttribute, attributesFrom, contextOf}
 use Rattle.ultra_format.specs.Members.{sizeSuits}
@@ -46,29 +46,29 @@ length-entries b o (suc n) = ap suc (length-entries b (o + 24) n)
 -- ---- the ranges from entry i of n on, as the loop meets them
 module _ (b : List ℕ) (o n i : ℕ) where
   pub range-next : (s t : State) → i < n → t ≡ puts s (lineBytes (rangeLine (entryAt b (o + 24 * i))))
-      → puts t (linesBytes (rangeLines (entriesAt b (o + 24 * (i + 1)) (n - (i + 1))))) ≡ puts s (linesBytes (rangeLines (entriesAt b (o + 24 * i) (n - i))))
+      → putLines t (rangeLines (entriesAt b (o + 24 * (i + 1)) (n - (i + 1)))) ≡ putLines s (rangeLines (entriesAt b (o + 24 * i) (n - i)))
   unfolding entriesAt rangeLines
   range-next s t h e =
       let q : n - i ≡ suc (n - (i + 1)) = omega arith in
       let r : o + 24 * i + 24 ≡ o + 24 * (i + 1) = omega arith in
-      rw (q, r) (line-then s t _ _ _ e refl)
+      rw (q, r, e)
 
-  pub range-end : (s : State) → n ≤ i → puts s (linesBytes (rangeLines (entriesAt b (o + 24 * i) (n - i)))) ≡ s
+  pub range-end : (s : State) → n ≤ i → putLines s (rangeLines (entriesAt b (o + 24 * i) (n - i))) ≡ s
   unfolding entriesAt rangeLines
-  range-end s h = let q : n - i ≡ 0 = omega arith in rw q (sym (no-lines s))
+  range-end s h = let q : n - i ≡ 0 = omega arith in rw q
 
 -- ---- the attributes from attribute i of n on
 module _ (b : List ℕ) (n i : ℕ) where
-  pub attribute-next : (s t : State) → i < n → t ≡ puts s (linesBytes (bodyLines (storedAttribute b i .size) (storedAttribute b i .body)))
-      → puts t (linesBytes (attributesLines (attributesFrom b (i + 1) (n - (i + 1))))) ≡ puts s (linesBytes (attributesLines (attributesFrom b i (n - i))))
+  pub attribute-next : (s t : State) → i < n → t ≡ putLines s (bodyLines (storedAttribute b i .size) (storedAttribute b i .body))
+      → putLines t (attributesLines (attributesFrom b (i + 1) (n - (i + 1)))) ≡ putLines s (attributesLines (attributesFrom b i (n - i)))
   unfolding attributesFrom attributesLines
   attribute-next s t h e =
       let q : n - i ≡ suc (n - (i + 1)) = omega arith in
-      rw (q, add-one i) (lines-then s t _ _ _ e refl)
+      rw (q, add-one i, e, lines-append)
 
-  pub attribute-end : (s : State) → n ≤ i → puts s (linesBytes (attributesLines (attributesFrom b i (n - i)))) ≡ s
+  pub attribute-end : (s : State) → n ≤ i → putLines s (attributesLines (attributesFrom b i (n - i))) ≡ s
   unfolding attributesFrom attributesLines
-  attribute-end s h = let q : n - i ≡ 0 = omega arith in rw q (sym (no-lines s))
+  attribute-end s h = let q : n - i ≡ 0 = omega arith in rw q
 
 -- attribute i, where its start, size and type are known by another name
 module _ (b : List ℕ) (i o s t : ℕ) (e : o ≡ start b i) (f : s ≡ storedSize b i) (g : t ≡ storedType b i) where

@@ -6,8 +6,7 @@ use native.Mathlib.Nat.{add-zero, sub-zero, mul-zero}
 use native.Mathlib.Omega.{arith}
 use lib.ListN.{length}
 use denote.Ref.{now}
-use Rattle.key_value_text.specs.Lines.{linesBytes}
-use Rattle.text_output.specs.Output.{puts}
+use Rattle.key_value_text.specs.Lines.{putLines}
 use Rattle.ultra_format.specs.Decoding.{entriesAt}
 use Rattle.listing_format.proofs.LineLaws.{range-next, range-end}
 use Rattle.listing_format.specs.Listing.{rangeLines}
@@ -19,7 +18,7 @@ abbrev Inv-loop : tie.InvT-loop
 Inv-loop out₀ to buf at n end₀ i₀ out end i =
     (i ≤ n)
     × (length out ≡ length out₀)
-    × (puts (out, end) (linesBytes (rangeLines (entriesAt buf (at + 24 * i) (n - i)))) ≡ puts (out₀, to) (linesBytes (rangeLines (entriesAt buf at n))))
+    × (putLines (out, end) (rangeLines (entriesAt buf (at + 24 * i) (n - i))) ≡ putLines (out₀, to) (rangeLines (entriesAt buf at n)))
 
 abbrev μ-loop : tie.MeasureT-loop
 μ-loop out₀ to buf at n end₀ i₀ out end i = n - i

@@ -5,31 +5,10 @@ use borrow.Author.Needs.{needs}
 use Rattle.listing_lines.proofs.platform.late.Statement.{statement}
 use Rattle.listing_lines.proofs.platform.late.Tie as tie
 
-add-if1 : tie.Need-add-if1
-add-if1 c = search needs
-
-absent-line-requires : tie.Need-absent-line-requires
-absent-line-requires c κs = search needs
-
-same-length : tie.Need-same-length
-same-length c = search needs
-
 returns : tie.Need-returns
 returns c =
     let p = c .before .before in
     rw (lt-leb _ _ (p .before .before .if1 .taken)) (p .absent-line .ensures)
-
-add-load-u64 : tie.Need-add-load-u64
-add-load-u64 c = search needs
-
-load-u64-requires : tie.Need-load-u64-requires
-load-u64-requires c κs = search needs
-
-one-requires : tie.Need-one-requires
-one-requires c κs = search needs
-
-same-length-2 : tie.Need-same-length-2
-same-length-2 c = search needs
 
 returns-2 : tie.Need-returns-2
 returns-2 c =
@@ -41,12 +20,12 @@ pub late-spec : {M : Type 1} → statement M
 late-spec =
     tie.close
     (tie.spec
-    add-if1
-    absent-line-requires
-    same-length
+    (λ c. search needs)
+    (λ c κs. search needs)
+    (λ c. search needs)
     returns
-    add-load-u64
-    load-u64-requires
-    one-requires
-    same-length-2
+    (λ c. search needs)
+    (λ c κs. search needs)
+    (λ c κs. search needs)
+    (λ c. search needs)
     returns-2)
