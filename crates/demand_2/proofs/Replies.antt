@@ -45,7 +45,7 @@ use Rattle.ultra_questions.specs.declared.attributes.AttributeAnswer.{Attribute
 use Rattle.ultra_questions.specs.AttributeQuestion.{attributeAnswer}
 use Rattle.ultra_map_question.specs.MapQuestion.{mapCopiedBytes, overBytes}
 use Rattle.ultra_questions.specs.CommandLineQuestion.{commandLinePart}
-use Rattle.ultra_listing.specs.Listing.{contextLines, refusedLines, linesOf, textListed, listed}
+use Rattle.listing_format.specs.Listing.{contextLines, refusedLines, linesOf, textListed, listed}
 use Rattle.ultra_question_statements.proofs.ByContext.{questions-by-context}
 use Rattle.ultra_question_statements.proofs.QuestionRefusals.{refusals-pass-on}
 use Rattle.ultra_adding.specs.Adding.{addedAt}

@@ -23,7 +23,7 @@ use Rattle.ultra_questions.specs.CommandLineQuestion.{commandLinePart}
 use Rattle.ultra_questions.specs.ModuleQuestion.{moduleHolding}
 use Rattle.ultra_adding.specs.Adding.{added, addedMembers}
 use Rattle.ultra_building.specs.Building.{begun}
-use Rattle.ultra_listing.specs.Listing.{listing, listed}
+use Rattle.listing_format.specs.Listing.{listing, listed}
 
 -- what the adds of `ultra_building::members` are given: "numbers and byte slices"; `complete` says that no member is absent
 pub data Members : Type 0 where

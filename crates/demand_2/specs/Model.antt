@@ -34,7 +34,7 @@ use Rattle.ultra_map_question.specs.MapQuestion.{numbers, mapIn, overBytes}
 use Rattle.ultra_questions.specs.CommandLineQuestion.{commandLineIn, textIn}
 use Rattle.ultra_questions.specs.ModuleQuestion.{moduleIn}
 use Rattle.ultra_appending.specs.Appending.{appendCheck}
-use Rattle.ultra_listing.specs.Listing.{contextLines, refusedLines, textListed}
+use Rattle.listing_format.specs.Listing.{contextLines, refusedLines, textListed}
 use Rattle.demand_2.specs.Calls.{membersFormed, membersBody, Write.begin, Write.add, Write.addMembers}
 use Rattle.demand_2.specs.Calls.{Question, Question.read, Question.step, Question.askAttribute, Question.askStart, Question.askPart, Question.copyMap, Question.copyMapBytes}
 use Rattle.demand_2.specs.Calls.{Question.askLine, Question.locateLine, Question.askModule, Question.list, Question.askListingLength}

@@ -13,9 +13,9 @@ use lib.Seq.{sets, sets-eq}
 use borrow.Author.Tests.{lt-ltb}
 use Rattle.byte_layout.specs.Stored.{over}
 use Rattle.key_value_text.specs.Lines.{Value, Value.numbers, Value.text, Value.hex, Value.absent, Line, keyBytes, valueBytes, lineBytes, linesBytes}
-use Rattle.key_value_text.specs.Output.{State, next, put, puts}
-use Rattle.key_value_text.proofs.Puts.{each-append}
-use Rattle.key_value_text.specs.Spelling.{pick, each, digits, decimal, after, joined, hexPair, isEscaped, spelled}
+use Rattle.text_output.specs.Output.{State, next, put, puts}
+use Rattle.text_output.proofs.Puts.{each-append}
+use Rattle.text_output.specs.Spelling.{pick, each, digits, decimal, after, joined, hexPair, isEscaped, spelled}
 
 -- ---- where putting ends
 place-next : (n : ℕ) → n < 4294967295 → next n ≡ n + 1

@@ -1,4 +1,3 @@
-pub mod Digits
 pub mod Lengths
-pub mod Puts
+pub mod LinePuts
 pub mod ReadingBack

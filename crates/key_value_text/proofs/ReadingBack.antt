@@ -10,9 +10,9 @@ use native.Mathlib.Nat.{div-lt-iff-lt-mul, pow-suc}
 use lib.Dec.{leb, ltb, eqb}
 use borrow.Author.Tests.{ltb-true, ltb-false, lt-ltb, le-ltb, leb-false, eqb-false, eq-eqb, ne-eqb}
 use Rattle.key_value_text.specs.Lines.{Value, Value.numbers, Value.text, Value.hex, Value.absent, Line, line, keyBytes, valueBytes, lineBytes}
-use Rattle.key_value_text.specs.Spelling.{ascii, pick, each, digits, decimal, after, joined, hexDigit, hexPair, isEscaped, spelled}
+use Rattle.text_output.specs.Spelling.{ascii, pick, each, digits, decimal, after, joined, hexDigit, hexPair, isEscaped, spelled}
 use Rattle.key_value_text.specs.ReadingBack.{shifted, numberFrom, numberIn, numbersFrom, numbersIn, hexValue, bytesIn, Place.atByte, Place.atFirst, Place.atSecond, textFrom, textIn, before, cut, All, Short, Byte, Differs, Separated, ReadsBack, largest, EndsAtNewline, ReadsBackWidest}
-use Rattle.key_value_text.proofs.Digits.{one-digit, more-digits, escaped-byte, plain-byte}
+use Rattle.text_output.proofs.Digits.{one-digit, more-digits, escaped-byte, plain-byte}
 
 -- ---- lists of which all elements meet a condition
 all-append : (P : ℕ → Type 0) (l m : List ℕ) → All P l → All P m → All P (l ++ m)

@@ -1,4 +1,2 @@
 pub mod Lines
-pub mod Output
 pub mod ReadingBack
-pub mod Spelling

@@ -6,7 +6,7 @@ use Prim.Native.Char.{code}
 use mathlib.Core.Path.{_≡_}
 use mathlib.Core.List.{List, [], _∷_, _++_}
 use lib.Dec.{ltb, eqb}
-use Rattle.key_value_text.specs.Spelling.{ascii, pick, each, decimal, joined, hexPair, spelled}
+use Rattle.text_output.specs.Spelling.{ascii, pick, each, decimal, joined, hexPair, spelled}
 use Rattle.key_value_text.specs.Lines.{Value, Value.numbers, Value.text, Value.hex, Value.absent, Line, line, valueBytes, lineBytes}
 
 -- ---- what bytes say

@@ -3,10 +3,10 @@ ghost use mathlib.Core.Path.{_≡_};
 ghost use Prim.Native.Nat.{_+_, _≤_};
 ghost use lib.ListN.{length};
 ghost use Rattle.byte_layout.specs.Stored.{bytesAt, textAt};
-ghost use Rattle.key_value_text.specs.Output.{puts};
+ghost use Rattle.text_output.specs.Output.{puts};
 ghost use Rattle.key_value_text.specs.Lines.{Value, line, keyBytes, lineBytes};
-use crate::output::put;
-use crate::output::put_all;
+use text_output::put;
+use text_output::put_all;
 
 // The key and `=`.
 fn put_key(out: &mut [u8], to: u32, key: &[u8]) -> u32
@@ -21,7 +21,7 @@ pub fn numbers_line(out: &mut [u8], to: u32, key: &[u8], separator: u8, numbers:
     ensures { λ r. ⌜ (now (out .exit), r) ≡ puts (now (out .entry), to) (lineBytes (line (now (key .entry)) (Value.numbers separator (now (numbers .entry))))) ⌝ }
 {
     let at = put_key(out, to, key);
-    let end = crate::spelling::joined(out, at, separator, numbers);
+    let end = text_output::joined(out, at, separator, numbers);
     put(out, end, b'\n')
 }
 
@@ -39,7 +39,7 @@ pub fn text_line(
 {
     let at = put_key(out, to, key);
     let n = byte_layout::text_length(bytes, start, width);
-    let end = crate::spelling::escaped(out, at, bytes, start, n);
+    let end = text_output::escaped(out, at, bytes, start, n);
     put(out, end, b'\n')
 }
 
@@ -49,7 +49,7 @@ pub fn hex_line(out: &mut [u8], to: u32, key: &[u8], bytes: &[u8], start: usize,
     ensures { λ r. ⌜ (now (out .exit), r) ≡ puts (now (out .entry), to) (lineBytes (line (now (key .entry)) (Value.hex (bytesAt (now (bytes .entry)) start n)))) ⌝ }
 {
     let at = put_key(out, to, key);
-    let end = crate::spelling::hexadecimal(out, at, bytes, start, n);
+    let end = text_output::hexadecimal(out, at, bytes, start, n);
     put(out, end, b'\n')
 }
 

@@ -1,7 +1,7 @@
 // Lists the context on standard input: document 01, "The listing". What is printed is made by `ultra_listing::list`, and nothing else is.
 ghost use Prim.Native.Nat.{_≤_};
 ghost use lib.ListN.{length};
-ghost use Rattle.ultra_listing.specs.Listing.{listingMost};
+ghost use Rattle.listing_format.specs.Listing.{listingMost};
 use libc::STDIN_FILENO;
 use libc::STDOUT_FILENO;
 use refusals::Answer;

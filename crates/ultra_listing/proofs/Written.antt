@@ -9,7 +9,7 @@ use lib.Dec.{leb}
 use lib.ListN.{length}
 use borrow.Author.Tests.{leb-true, le-leb, lt-leb}
 use Rattle.byte_layout.specs.Stored.{over}
-use Rattle.key_value_text.specs.Output.{puts}
+use Rattle.text_output.specs.Output.{puts}
 use Rattle.key_value_text.proofs.Lengths.{text-place, text-over}
 use Rattle.refusals.specs.Refusals.{ROOM}
 use Rattle.refusals.specs.Answers.{refusal, refused}
@@ -17,8 +17,8 @@ use Rattle.ultra_format.specs.Decoding.{pick}
 use Rattle.refusals.specs.declared.Refusal.{Refusal}
 use Rattle.refusals.specs.declared.Answer.{Answer}
 use Rattle.refusals.specs.declared.Answer.the-variants.{Done, Refused}
-use Rattle.ultra_listing.specs.Listing.{listing, listed}
-use Rattle.ultra_listing.proofs.Bounds.{listing-fits}
+use Rattle.listing_format.specs.Listing.{listing, listed}
+use Rattle.listing_format.proofs.Bounds.{listing-fits}
 
 module _ (b out : List ℕ) where
   pub list-short : (r : Refusal) → length out < length (listing b) → r ≡ refusal ROOM 0 → (Refused r, out) ≡ listed b out

@@ -1,17 +1,16 @@
 // A whole listing: of an accepted context, and of a refused one.
 ghost use mathlib.Core.Path.{_≡_};
-ghost use Rattle.key_value_text.specs.Output.{puts};
-ghost use Rattle.key_value_text.specs.Lines.{linesBytes};
+ghost use Rattle.key_value_text.specs.Lines.{putLines};
 ghost use Rattle.ultra_format.specs.Contexts.{used as used·of};
 ghost use Rattle.ultra_format.specs.Decoding.{contextOf};
 ghost use Rattle.ultra_locating.specs.Passing.{Accepts};
-ghost use Rattle.ultra_listing.specs.Listing.{contextLines, refusedLines};
-use crate::numbers::one;
-use crate::numbers::two;
+ghost use Rattle.listing_format.specs.Listing.{contextLines, refusedLines};
+use listing_lines::numbers::one;
+use listing_lines::numbers::two;
 use refusals::Refusal;
 
 pub fn refused(out: &mut [u8], refusal: Refusal) -> u32
-    ensures { λ r. ⌜ (now (out .exit), r) ≡ puts (now (out .entry), 0) (linesBytes (refusedLines refusal)) ⌝ }
+    ensures { λ r. ⌜ (now (out .exit), r) ≡ putLines (now (out .entry), 0) (refusedLines refusal) ⌝ }
 {
     two(
         out,
@@ -27,7 +26,7 @@ pub fn refused(out: &mut [u8], refusal: Refusal) -> u32
 pub fn accepted(out: &mut [u8], buf: &[u8], used: u32) -> u32
     requires { ⌜ Accepts (now buf) ⌝ }
     requires { ⌜ used ≡ used·of (contextOf (now buf)) ⌝ }
-    ensures { λ r. ⌜ (now (out .exit), r) ≡ puts (now (out .entry), 0) (linesBytes (contextLines (contextOf (now (buf .entry))))) ⌝ }
+    ensures { λ r. ⌜ (now (out .exit), r) ≡ putLines (now (out .entry), 0) (contextLines (contextOf (now (buf .entry)))) ⌝ }
 {
     let major = buf[0] as u64;
     let minor = buf[1] as u64;
@@ -36,7 +35,7 @@ pub fn accepted(out: &mut [u8], buf: &[u8], used: u32) -> u32
         out,
         after_version,
         b"attributes",
-        words::load_u32(buf, 4) as u64,
+        ultra_layout::head::count(buf) as u64,
     );
     let after_attributes = crate::attributes::all(out, after_count, buf);
     one(out, after_attributes, b"used", used as u64)

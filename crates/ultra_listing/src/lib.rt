@@ -1,17 +1,11 @@
 // The listing of a lent context, as bytes in lent output: document 01, "The listing".
 mod attributes;
 mod context;
-mod framebuffer;
-mod kernel;
-mod map;
-mod module;
-mod numbers;
-mod platform;
 
 ghost use mathlib.Core.Path.{_≡_};
 ghost use lib.ListN.{length};
-ghost use Rattle.key_value_text.specs.Output.{puts};
-ghost use Rattle.ultra_listing.specs.Listing.{listing, listed};
+ghost use Rattle.text_output.specs.Output.{puts};
+ghost use Rattle.listing_format.specs.Listing.{listing, listed};
 use refusals::Answer;
 use refusals::Refusal;
 

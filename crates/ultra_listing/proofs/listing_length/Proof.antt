@@ -3,8 +3,8 @@
 use native.Mathlib.Omega.{arith}
 use denote.Ref.{now}
 use Rattle.key_value_text.proofs.Lengths.{text-place}
-use Rattle.ultra_listing.proofs.Bounds.{listing-fits}
-use Rattle.ultra_listing.specs.Listing.{listing}
+use Rattle.listing_format.proofs.Bounds.{listing-fits}
+use Rattle.listing_format.specs.Listing.{listing}
 use borrow.Author.Needs.{needs}
 use Rattle.ultra_listing.proofs.listing_length.Statement.{statement}
 use Rattle.ultra_listing.proofs.listing_length.Tie as tie

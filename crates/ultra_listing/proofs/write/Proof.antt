@@ -4,9 +4,10 @@ use mathlib.Core.List.{List}
 use mathlib.Core.Path.{sym, ap, _∙_}
 use denote.Ref.{now}
 use Rattle.key_value_text.specs.Lines.{Line, linesBytes}
-use Rattle.key_value_text.specs.Output.{puts}
+use Rattle.text_output.specs.Output.{puts}
+use Rattle.key_value_text.proofs.LinePuts.{lines-put}
 use Rattle.ultra_format.specs.Decoding.{contextOf}
-use Rattle.ultra_listing.specs.Listing.{linesOf, linesWhen}
+use Rattle.listing_format.specs.Listing.{linesOf, linesWhen}
 use Rattle.ultra_locating.specs.Passing.{Accepts}
 use Rattle.ultra_locating.proofs.Located.{used-is}
 use borrow.Author.Needs.{needs}
@@ -41,7 +42,7 @@ returns c =
     let p = c .before .before in
     let m = p .before .before .before in
     let u = m .before .before in
-    rw (← (u .used-length .ensures), m .answer .given .1) (p .refused .ensures)
+    rw (← (u .used-length .ensures), m .answer .given .1) (p .refused .ensures ∙ lines-put _ _)
 
 same-length-2 : tie.Need-same-length-2
 same-length-2 c = search needs
@@ -52,7 +53,7 @@ returns-2 c =
     let p = c .before .before in
     let m = p .before .before .before in
     let u = m .before .before in
-    rw (← (u .used-length .ensures), m .answer2 .given .1) (p .accepted .ensures)
+    rw (← (u .used-length .ensures), m .answer2 .given .1) (p .accepted .ensures ∙ lines-put _ _)
 
 pub write-spec : {M : Type 1} → statement M
 write-spec =

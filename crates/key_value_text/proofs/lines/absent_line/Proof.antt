@@ -2,7 +2,8 @@
 -- Assumes nothing.
 use mathlib.Core.Path.{sym, _∙_}
 use Rattle.key_value_text.specs.Lines.{Value.absent, valueBytes}
-use Rattle.key_value_text.proofs.Puts.{puts-one, line-put}
+use Rattle.text_output.proofs.Puts.{puts-one}
+use Rattle.key_value_text.proofs.LinePuts.{line-put}
 use borrow.Author.Needs.{needs}
 use denote.Ref.{now}
 use Rattle.key_value_text.proofs.lines.absent_line.Statement.{statement}

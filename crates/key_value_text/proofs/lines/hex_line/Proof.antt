@@ -2,7 +2,7 @@
 -- Assumes nothing.
 use Rattle.byte_layout.specs.Stored.{bytesAt}
 use Rattle.key_value_text.specs.Lines.{Value.hex, valueBytes}
-use Rattle.key_value_text.proofs.Puts.{line-put}
+use Rattle.key_value_text.proofs.LinePuts.{line-put}
 use borrow.Author.Needs.{needs}
 use denote.Ref.{now}
 use Rattle.key_value_text.proofs.lines.hex_line.Statement.{statement}

@@ -1,7 +1,7 @@
 -- `lines::numbers_line` meets its contract.
 -- Assumes nothing.
 use Rattle.key_value_text.specs.Lines.{Value.numbers, valueBytes}
-use Rattle.key_value_text.proofs.Puts.{line-put}
+use Rattle.key_value_text.proofs.LinePuts.{line-put}
 use borrow.Author.Needs.{needs}
 use denote.Ref.{now}
 use Rattle.key_value_text.proofs.lines.numbers_line.Statement.{statement}

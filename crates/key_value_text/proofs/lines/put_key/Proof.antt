@@ -2,13 +2,11 @@
 -- Assumes nothing.
 use borrow.Author.Needs.{needs}
 use denote.Ref.{now}
-use Rattle.key_value_text.proofs.Puts.{byte-after}
+use Rattle.text_output.proofs.Puts.{byte-after}
 use Rattle.key_value_text.proofs.lines.put_key.Statement.{statement}
 use Rattle.key_value_text.proofs.lines.put_key.Tie as tie
 use Rattle.key_value_text.proofs.lines.put_key.Reads as reads
 use Rattle.key_value_text.proofs.lines.put_key.Lts as lts
-use Rattle.key_value_text.proofs.output.put.Reads as put-reads
-use Rattle.key_value_text.proofs.output.put_all.Reads as put-all-reads
 
 -- src/lines.rt:15:9
 put-all-requires : tie.Need-put-all-requires

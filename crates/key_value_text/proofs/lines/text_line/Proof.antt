@@ -6,9 +6,9 @@ use mathlib.Core.List.{List}
 use Rattle.byte_layout.specs.Stored.{bytesAt, textAt}
 use Rattle.byte_layout.proofs.Copies.{text-bytes}
 use Rattle.key_value_text.specs.Lines.{Value.text, valueBytes}
-use Rattle.key_value_text.specs.Output.{puts}
-use Rattle.key_value_text.specs.Spelling.{each, spelled}
-use Rattle.key_value_text.proofs.Puts.{line-put}
+use Rattle.text_output.specs.Output.{puts}
+use Rattle.text_output.specs.Spelling.{each, spelled}
+use Rattle.key_value_text.proofs.LinePuts.{line-put}
 use borrow.Author.Needs.{needs}
 use denote.Ref.{now}
 use Rattle.key_value_text.proofs.lines.text_line.Statement.{statement}

@@ -9,13 +9,12 @@ use native.Mathlib.Omega.{arith}
 use lib.ListN.{length}
 use denote.Ref.{now}
 use Rattle.words.specs.Words.{u32At}
-use Rattle.key_value_text.specs.Lines.{Line, linesBytes}
-use Rattle.key_value_text.specs.Output.{puts}
+use Rattle.key_value_text.specs.Lines.{Line, putLines}
 use Rattle.ultra_format.specs.Decoding.{start, storedType, storedSize, attributesFrom}
 use Rattle.ultra_stepping.proofs.WalkLaws.{start-next}
 use Rattle.ultra_locating.proofs.Located.{Inside, head-inside, inside}
-use Rattle.ultra_listing.proofs.LineLaws.{lines-at, suits-at, attribute-next, attribute-end}
-use Rattle.ultra_listing.specs.Listing.{attributesLines}
+use Rattle.listing_format.proofs.LineLaws.{lines-at, suits-at, attribute-next, attribute-end}
+use Rattle.listing_format.specs.Listing.{attributesLines}
 use borrow.Author.Needs.{needs}
 use Rattle.ultra_listing.proofs.attributes.all.Statement.{statement}
 use Rattle.ultra_listing.proofs.attributes.all.Tie as tie
@@ -25,13 +24,13 @@ Inv-loop out₀ to buf count end₀ at₀ i₀ out end at i =
     (at ≡ start buf i)
     × (i ≤ count)
     × (length out ≡ length out₀)
-    × (puts (out, end) (linesBytes (attributesLines (attributesFrom buf i (count - i)))) ≡ puts (out₀, to) (linesBytes (attributesLines (attributesFrom buf 0 count))))
+    × (putLines (out, end) (attributesLines (attributesFrom buf i (count - i))) ≡ putLines (out₀, to) (attributesLines (attributesFrom buf 0 count)))
 
 abbrev μ-loop : tie.MeasureT-loop
 μ-loop out₀ to buf count end₀ at₀ i₀ out end at i = count - i
 
-load-u32-requires : tie.Need-load-u32-requires Inv-loop μ-loop
-load-u32-requires c κs = omega (arith, head-inside (now (c .before .before .args .buf)) (c .before .before .pre))
+count-requires : tie.Need-count-requires Inv-loop μ-loop
+count-requires c κs = omega (arith, head-inside (now (c .before .before .args .buf)) (c .before .before .pre))
 
 loop-holds : tie.Need-loop-holds Inv-loop μ-loop
 unfolding start
@@ -41,25 +40,22 @@ loop-holds c = (refl, search needs, refl, rw sub-zero refl)
 here : (c : tie.In-loop Inv-loop μ-loop) → Inside (now (c .before .before .before .before .before .args .buf)) (c .before .loop .i)
 here c =
     let s = c .before .before .before .before .before in
-    inside (now (s .args .buf)) (s .pre) (c .before .loop .i) (omega (arith, c .before .before .load-u32 .ensures))
+    inside (now (s .args .buf)) (s .pre) (c .before .loop .i) (omega (arith, c .before .before .count .ensures))
 
-load-u32-requires-2 : tie.Need-load-u32-requires-2 Inv-loop μ-loop
-load-u32-requires-2 c κs = omega (arith, here c)
+kind-requires : tie.Need-kind-requires Inv-loop μ-loop
+kind-requires c κs = omega (arith, here c)
 
-add-load-u32 : tie.Need-add-load-u32 Inv-loop μ-loop
-add-load-u32 c = omega (arith, here (c .before))
-
-load-u32-requires-3 : tie.Need-load-u32-requires-3 Inv-loop μ-loop
-load-u32-requires-3 c κs = omega (arith, here (c .before))
+size-requires : tie.Need-size-requires Inv-loop μ-loop
+size-requires c κs = omega (arith, here (c .before))
 
 -- its type and its size are loaded
-kind : (c : tie.After-load-u322 Inv-loop μ-loop) → c .load-u322 .result ≡ storedType (now (c .before .before .before .before .before .before .args .buf)) (c .before .before .loop .i)
-kind c = c .load-u322 .ensures ∙ ap (u32At (now (c .before .before .before .before .before .before .args .buf))) (c .before .before .loop .inv .0)
+kind : (c : tie.After-kind Inv-loop μ-loop) → c .kind .result ≡ storedType (now (c .before .before .before .before .before .before .args .buf)) (c .before .before .loop .i)
+kind c = c .kind .ensures ∙ ap (u32At (now (c .before .before .before .before .before .before .args .buf))) (c .before .before .loop .inv .0)
 
-size : (c : tie.After-load-u323 Inv-loop μ-loop) → c .load-u323 .result ≡ storedSize (now (c .before .before .before .before .before .before .before .args .buf)) (c .before .before .before .loop .i)
+size : (c : tie.After-size Inv-loop μ-loop) → c .size .result ≡ storedSize (now (c .before .before .before .before .before .before .before .args .buf)) (c .before .before .before .loop .i)
 size c =
     let l = c .before .before .before in
-    c .load-u323 .ensures ∙ ap (λ (o : ℕ). u32At (now (l .before .before .before .before .args .buf)) (o + 4)) (l .loop .inv .0)
+    c .size .ensures ∙ ap (λ (o : ℕ). u32At (now (l .before .before .before .before .args .buf)) (o + 4)) (l .loop .inv .0)
 
 attribute-requires : tie.Need-attribute-requires Inv-loop μ-loop
 attribute-requires c κs =
@@ -68,7 +64,7 @@ attribute-requires c κs =
     let b = now (l .before .before .before .before .args .buf) in
     let h = here (z .before .before) in (
       (omega (arith, h, size z, l .loop .inv .0), omega (arith, h, size z)),
-      suits-at b (l .loop .i) (l .loop .at) (z .load-u323 .result) (z .before .load-u322 .result) (l .loop .inv .0) (size z) (kind (z .before)) (h .suits),
+      suits-at b (l .loop .i) (l .loop .at) (z .size .result) (z .before .kind .result) (l .loop .inv .0) (size z) (kind (z .before)) (h .suits),
     )
 
 cast-at : tie.Need-cast-at Inv-loop μ-loop
@@ -89,12 +85,12 @@ loop-again c =
     let z = p .before .before in
     let l = z .before .before .before in
     let b = now (l .before .before .before .before .args .buf) in
-    let e = lines-at b (l .loop .i) (l .loop .at) (z .load-u323 .result) (z .before .load-u322 .result) (l .loop .inv .0) (size z) (kind (z .before)) in (
+    let e = lines-at b (l .loop .i) (l .loop .at) (z .size .result) (z .before .kind .result) (l .loop .inv .0) (size z) (kind (z .before)) in (
       omega (arith, size z, start-next b (l .loop .i)),
       omega arith,
       p .attribute .kept .0 ∙ l .loop .inv .2,
-      attribute-next b (l .before .load-u32 .result) (l .loop .i) _ _ (z .before .before .loop-test .taken)
-          (p .attribute .ensures ∙ ap (λ (ls : List Line). puts (l .loop .out, l .loop .end) (linesBytes ls)) e)
+      attribute-next b (l .before .count .result) (l .loop .i) _ _ (z .before .before .loop-test .taken)
+          (p .attribute .ensures ∙ ap (λ (ls : List Line). putLines (l .loop .out, l .loop .end) ls) e)
           ∙ l .loop .inv .3,
     )
 
@@ -106,9 +102,9 @@ returns c =
     let l = c .before in
     let a = l .before .before .before .before .args in
     let b = now (a .buf) in
-    sym (attribute-end b (l .before .load-u32 .result) (l .loop .i) _ (c .loop-test .left))
+    sym (attribute-end b (l .before .count .result) (l .loop .i) _ (c .loop-test .left))
     ∙ l .loop .inv .3
-    ∙ ap (λ (n : ℕ). puts (now (a .out), a .to) (linesBytes (attributesLines (attributesFrom b 0 n)))) (l .before .load-u32 .ensures)
+    ∙ ap (λ (n : ℕ). putLines (now (a .out), a .to) (attributesLines (attributesFrom b 0 n))) (l .before .count .ensures)
 
 pub all-spec : {M : Type 1} → statement M
 all-spec =
@@ -116,11 +112,10 @@ all-spec =
     (tie.spec
     Inv-loop
     μ-loop
-    load-u32-requires
+    count-requires
     loop-holds
-    load-u32-requires-2
-    add-load-u32
-    load-u32-requires-3
+    kind-requires
+    size-requires
     attribute-requires
     cast-at
     add-at

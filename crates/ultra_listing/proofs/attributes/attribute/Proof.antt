@@ -2,11 +2,10 @@
 -- Assumes nothing.
 use native.Mathlib.Omega.{arith}
 use denote.Ref.{now}
-use Rattle.key_value_text.proofs.Puts.{last-line}
 use Rattle.ultra_format.proofs.Sizes.{platform-least, kernel-least, module-least, framebuffer-least}
 use Rattle.ultra_format.specs.Decoding.{decoded}
-use Rattle.ultra_listing.proofs.LineLaws.{decoded-other}
-use Rattle.ultra_listing.specs.Listing.{bodyLines}
+use Rattle.listing_format.proofs.LineLaws.{decoded-other}
+use Rattle.listing_format.specs.Listing.{bodyLines}
 use borrow.Author.Needs.{needs}
 use Rattle.ultra_listing.proofs.attributes.attribute.Statement.{statement}
 use Rattle.ultra_listing.proofs.attributes.attribute.Tie as tie
@@ -25,27 +24,12 @@ write-requires-2 c κs =
     let h = kernel-least (now (s .args .buf)) (s .args .at) (s .args .size) (s .args .kind) (m .match .keys2) (s .pre .1) in
     omega (arith, h, s .pre .0 .0)
 
-write-requires-3 : tie.Need-write-requires-3
-write-requires-3 c κs = search needs
-
 write-requires-4 : tie.Need-write-requires-4
 write-requires-4 c κs =
     let m = c .before in
     let s = m .before .before .before in
     let h = module-least (now (s .args .buf)) (s .args .at) (s .args .size) (s .args .kind) (m .match .keys4) (s .pre .1) in
     omega (arith, h, s .pre .0 .0)
-
-slice-aggregate-text-line : tie.Need-slice-aggregate-text-line
-slice-aggregate-text-line c = search needs
-
-add-text-line : tie.Need-add-text-line
-add-text-line c = search needs
-
-sub-text-line : tie.Need-sub-text-line
-sub-text-line c = search needs
-
-text-line-requires : tie.Need-text-line-requires
-text-line-requires c κs = search needs
 
 write-requires-5 : tie.Need-write-requires-5
 write-requires-5 c κs =
@@ -54,23 +38,11 @@ write-requires-5 c κs =
     let h = framebuffer-least (now (s .args .buf)) (s .args .at) (s .args .size) (s .args .kind) (m .match .keys6) (s .pre .1) in
     omega (arith, h, s .pre .0 .0)
 
-slice-aggregate-two : tie.Need-slice-aggregate-two
-slice-aggregate-two c = search needs
-
-two-requires : tie.Need-two-requires
-two-requires c κs = search needs
-
-same-length : tie.Need-same-length
-same-length c = search needs
-
 returns : tie.Need-returns
 unfolding decoded bodyLines
 returns c =
     let p = c .before .before in
     rw (p .before .before .match .keys1) (p .write .ensures)
-
-same-length-2 : tie.Need-same-length-2
-same-length-2 c = search needs
 
 returns-2 : tie.Need-returns-2
 unfolding decoded bodyLines
@@ -78,17 +50,11 @@ returns-2 c =
     let p = c .before .before in
     rw (p .before .before .match .keys2) (p .write2 .ensures)
 
-same-length-3 : tie.Need-same-length-3
-same-length-3 c = search needs
-
 returns-3 : tie.Need-returns-3
 unfolding decoded bodyLines
 returns-3 c =
     let p = c .before .before in
     rw (p .before .before .match .keys3) (p .write3 .ensures)
-
-same-length-4 : tie.Need-same-length-4
-same-length-4 c = search needs
 
 returns-4 : tie.Need-returns-4
 unfolding decoded bodyLines
@@ -96,26 +62,17 @@ returns-4 c =
     let p = c .before .before in
     rw (p .before .before .match .keys4) (p .write4 .ensures)
 
-same-length-5 : tie.Need-same-length-5
-same-length-5 c = search needs
-
 returns-5 : tie.Need-returns-5
 unfolding decoded bodyLines
 returns-5 c =
     let p = c .before .before in
-    rw (p .before .before .before .match .keys5) (last-line _ _ _ (p .text-line .ensures))
-
-same-length-6 : tie.Need-same-length-6
-same-length-6 c = search needs
+    rw (p .before .before .before .match .keys5) (p .text-line .ensures)
 
 returns-6 : tie.Need-returns-6
 unfolding decoded bodyLines
 returns-6 c =
     let p = c .before .before in
     rw (p .before .before .match .keys6) (p .write5 .ensures)
-
-same-length-7 : tie.Need-same-length-7
-same-length-7 c = search needs
 
 returns-7 : tie.Need-returns-7
 unfolding bodyLines
@@ -125,7 +82,7 @@ returns-7 c =
     let a = m .before .before .before .args in
     let n = m .match .rest in
     rw (decoded-other (now (a .buf)) (a .at) (a .size) (a .kind) (n .0 .0 .0 .0 .0 .1, n .0 .0 .0 .0 .1, n .0 .0 .0 .1, n .0 .0 .1, n .0 .1, n .1))
-    (last-line _ _ _ (p .two .ensures))
+    (p .two .ensures)
 
 pub attribute-spec : {M : Type 1} → statement M
 attribute-spec =
@@ -133,26 +90,26 @@ attribute-spec =
     (tie.spec
     write-requires
     write-requires-2
-    write-requires-3
+    (λ c κs. search needs)
     write-requires-4
-    slice-aggregate-text-line
-    add-text-line
-    sub-text-line
-    text-line-requires
+    (λ c. search needs)
+    (λ c. search needs)
+    (λ c. search needs)
+    (λ c κs. search needs)
     write-requires-5
-    slice-aggregate-two
-    two-requires
-    same-length
+    (λ c. search needs)
+    (λ c κs. search needs)
+    (λ c. search needs)
     returns
-    same-length-2
+    (λ c. search needs)
     returns-2
-    same-length-3
+    (λ c. search needs)
     returns-3
-    same-length-4
+    (λ c. search needs)
     returns-4
-    same-length-5
+    (λ c. search needs)
     returns-5
-    same-length-6
+    (λ c. search needs)
     returns-6
-    same-length-7
+    (λ c. search needs)
     returns-7)

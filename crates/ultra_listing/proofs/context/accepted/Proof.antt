@@ -2,8 +2,8 @@
 -- Assumes nothing.
 use native.Mathlib.Omega.{arith}
 use denote.Ref.{now}
-use Rattle.key_value_text.proofs.Puts.{line-then, last-line, lines-then}
-use Rattle.ultra_listing.proofs.LineLaws.{context-lines}
+use Rattle.key_value_text.proofs.LinePuts.{lines-append}
+use Rattle.listing_format.proofs.LineLaws.{context-lines}
 use Rattle.ultra_locating.proofs.Located.{head-inside}
 use borrow.Author.Needs.{needs}
 use Rattle.ultra_listing.proofs.context.accepted.Statement.{statement}
@@ -21,37 +21,10 @@ shared-slice-read-minor c = omega (arith, head-inside (now (c .before .before .b
 cast-minor : tie.Need-cast-minor
 cast-minor c = omega (arith, c .shared-slice-known3 .given 1)
 
-slice-aggregate-two : tie.Need-slice-aggregate-two
-slice-aggregate-two c = search needs
-
-two-requires : tie.Need-two-requires
-two-requires c κs = search needs
-
-slice-aggregate-one : tie.Need-slice-aggregate-one
-slice-aggregate-one c = search needs
-
-load-u32-requires : tie.Need-load-u32-requires
-load-u32-requires c κs =
+count-requires : tie.Need-count-requires
+count-requires c κs =
     let s = c .before .before .before .before .before .before .before .before .before .before .before in
     omega (arith, head-inside (now (s .args .buf)) (s .pre .0))
-
-cast-one : tie.Need-cast-one
-cast-one c = search needs
-
-one-requires : tie.Need-one-requires
-one-requires c κs = search needs
-
-all-requires : tie.Need-all-requires
-all-requires c κs = search needs
-
-slice-aggregate-one-2 : tie.Need-slice-aggregate-one-2
-slice-aggregate-one-2 c = search needs
-
-one-requires-2 : tie.Need-one-requires-2
-one-requires-2 c κs = search needs
-
-same-length : tie.Need-same-length
-same-length c = search needs
 
 returns : tie.Need-returns
 returns c =
@@ -60,10 +33,14 @@ returns c =
     let n = a .before .before .before .before in
     let v = n .before .before .before .before .before .before in
     let s = v .before .before .before .before .before .before .before in
-    rw (context-lines (now (s .args .buf)))
-    (line-then _ _ _ _ _ (v .two .ensures)
-    (line-then _ _ _ _ _ (rw (n .before .load-u32 .ensures) at (n .one .ensures))
-    (lines-then _ _ _ _ _ (a .all .ensures) (last-line _ _ _ (rw (s .pre .1) at (u .one2 .ensures))))))
+    rw (
+      context-lines (now (s .args .buf)),
+      lines-append,
+      ← (v .two .ensures),
+      ← (rw (n .before .count .ensures) at (n .one .ensures)),
+      ← (a .all .ensures),
+    )
+    (rw (s .pre .1) at (u .one2 .ensures))
 
 pub accepted-spec : {M : Type 1} → statement M
 accepted-spec =
@@ -73,14 +50,14 @@ accepted-spec =
     cast-major
     shared-slice-read-minor
     cast-minor
-    slice-aggregate-two
-    two-requires
-    slice-aggregate-one
-    load-u32-requires
-    cast-one
-    one-requires
-    all-requires
-    slice-aggregate-one-2
-    one-requires-2
-    same-length
+    (λ c. search needs)
+    (λ c κs. search needs)
+    (λ c. search needs)
+    count-requires
+    (λ c. search needs)
+    (λ c κs. search needs)
+    (λ c κs. search needs)
+    (λ c. search needs)
+    (λ c κs. search needs)
+    (λ c. search needs)
     returns)

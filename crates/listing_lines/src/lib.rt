@@ -1,0 +1,7 @@
+// The lines of an attribute of each type, put into a lent output.
+pub mod framebuffer;
+pub mod kernel;
+pub mod map;
+pub mod module;
+pub mod numbers;
+pub mod platform;
