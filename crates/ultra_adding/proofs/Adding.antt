@@ -1,4 +1,4 @@
--- Laws of adding, for whatever is given: what an add has to show where it raised the count, at each of its steps from there on.
+-- Laws of adding, for whatever is given: all that an add has to show of itself is that it raised the count for what it is given.
 -- Assumes nothing.
 use Prim.Native.Nat.{ℕ, _+_, _-_, _≤_}
 use mathlib.Core.Path.{_≡_, refl, sym, ap, _∙_}
@@ -38,12 +38,14 @@ pub record Space (q : List ℕ) (n size : ℕ) : Type 0 where
   pub within : n + size ≤ length q
   pub small : n + size ≤ 65536
 
--- an add of x to b, where raising the count answered `a` and left q: where the attribute goes and what it meets, what a refusal is, and
--- what it is that the part from the offset on was lent and came back with the attribute over its front
+-- an add of x to b, where raising the count answered `a` and left q
 pub record Adds (b q : List ℕ) (f : Bool) (x : Body) (a : Answer) (size : ℕ) : Type 0 where
+  -- at an offset there is space, and x breaks no rule
   pub space : {n : ℕ} → a ≡ Done n → Space q n size
   pub holds : {n : ℕ} → a ≡ Done n → (f ≡ true) × BodyHolds (writtenSize x) x
+  -- a refusal is passed on, and changes nothing
   pub refused : {r : Refusal} → a ≡ Refused r → (a, q) ≡ addedMembers b f x
+  -- the part from the offset on was lent, and came back with the attribute over its front
   pub written : {p : List ℕ} {n : ℕ} → a ≡ Done n → p ≡ over (newBytes x) (take (length q - n) (drop n q))
       → (Done (n + size), take n q ++ (p ++ drop (length q - n) (drop n q))) ≡ addedMembers b f x
 

@@ -1,6 +1,6 @@
--- What it says that members given break no rule: how long their texts and GUIDs are, and that a map is of whole entries.
+-- What it says that members given break no rule: how long their texts and GUIDs are.
 -- Assumes nothing.
-use Prim.Native.Nat.{ℕ, _%_, _<_}
+use Prim.Native.Nat.{ℕ, _<_}
 use mathlib.Core.Path.{_≡_}
 use mathlib.Core.Bool.{true, _&&_}
 use mathlib.Core.List.{List}

@@ -1,16 +1,13 @@
 -- `ultra_building::adds::add_kernel` meets its contract: the members are those of the record.
 -- Assumes nothing.
-use mathlib.Core.Path.{_≡_, ap, _∙_}
+use mathlib.Core.Path.{_≡_, _∙_}
+use mathlib.Core.Bool.{true}
+use borrow.Author.Needs.{needs}
 use denote.Ref.{now}
 use lib.ListN.{length}
-use borrow.Author.Tests.{eq-eqb}
 use Rattle.ultra_format.specs.Additions.{kernelOf, bodyGiven, guidsFormed}
-use mathlib.Core.Bool.{true}
-use mathlib.Core.List.{List}
-use Prim.Native.Nat.{ℕ}
 use Rattle.ultra_adding.specs.Adding.{addedMembers}
 use Rattle.ultra_building.proofs.GivenRecords.{text-part}
-use borrow.Author.Needs.{needs}
 use Rattle.ultra_building.proofs.adds.add_kernel.Statement.{statement}
 use Rattle.ultra_building.proofs.adds.add_kernel.Tie as tie
 

@@ -1,14 +1,14 @@
 -- `ultra_building::adds::add_module` meets its contract: the members are those of the record.
 -- Assumes nothing.
+use Prim.Native.Nat.{ℕ}
 use mathlib.Core.Path.{ap, _∙_}
-use denote.Ref.{now}
-use Rattle.ultra_format.specs.Additions.{moduleOf, bodyGiven}
 use mathlib.Core.Bool.{true}
 use mathlib.Core.List.{List}
-use Prim.Native.Nat.{ℕ}
+use borrow.Author.Needs.{needs}
+use denote.Ref.{now}
+use Rattle.ultra_format.specs.Additions.{moduleOf, bodyGiven}
 use Rattle.ultra_adding.specs.Adding.{addedMembers}
 use Rattle.ultra_building.proofs.GivenRecords.{text-part}
-use borrow.Author.Needs.{needs}
 use Rattle.ultra_building.proofs.adds.add_module.Statement.{statement}
 use Rattle.ultra_building.proofs.adds.add_module.Tie as tie
 

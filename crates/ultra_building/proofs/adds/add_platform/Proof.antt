@@ -1,11 +1,11 @@
 -- `ultra_building::adds::add_platform` meets its contract: the members are those of the record.
 -- Assumes nothing.
 use mathlib.Core.Path.{_∙_}
+use borrow.Author.Needs.{needs}
 use denote.Ref.{now}
 use Rattle.ultra_format.specs.Additions.{platformOf, bodyGiven}
 use Rattle.ultra_adding.specs.Adding.{addedMembers}
 use Rattle.ultra_building.proofs.GivenRecords.{text-part, record-added}
-use borrow.Author.Needs.{needs}
 use Rattle.ultra_building.proofs.adds.add_platform.Statement.{statement}
 use Rattle.ultra_building.proofs.adds.add_platform.Tie as tie
 
