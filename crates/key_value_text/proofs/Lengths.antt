@@ -1,21 +1,21 @@
 -- How long what is spelled can be, and where putting it ends.
 -- Assumes nothing.
 use Prim.Native.Nat.{ℕ, zero, suc, _+_, _*_, _/_, _%_, _≤_, _<_}
-use mathlib.Core.Path.{_≡_, refl, sym, ap, _∙_}
+use mathlib.Core.Path.{_≡_, ap, _∙_}
 use mathlib.Core.Bool.{Bool, true, false}
 use mathlib.Core.List.{List, [], _∷_, _++_}
 use native.Mathlib.Omega.{arith}
 use native.Mathlib.Nat.{add-zero, zero-add, mul-suc}
 use native.Mathlib.Numerals.{add-one}
 use lib.Dec.{ltb}
-use lib.ListN.{length, drop, set, length-append}
+use lib.ListN.{length, set, length-append}
 use lib.Seq.{sets, sets-eq}
 use borrow.Author.Tests.{lt-ltb}
 use Rattle.byte_layout.specs.Stored.{over}
-use Rattle.key_value_text.specs.Lines.{Value, Value.numbers, Value.text, Value.hex, Value.absent, Line, keyBytes, valueBytes, lineBytes, linesBytes}
+use Rattle.key_value_text.specs.Lines.{Value, Value.numbers, Value.text, Value.hex, Value.absent, Line, valueBytes, lineBytes, linesBytes}
 use Rattle.text_output.specs.Output.{State, next, put, puts}
 use Rattle.text_output.proofs.Puts.{each-append}
-use Rattle.text_output.specs.Spelling.{pick, each, digits, decimal, after, joined, hexPair, isEscaped, spelled}
+use Rattle.text_output.specs.Spelling.{pick, each, digits, after, joined, hexPair, isEscaped, spelled}
 
 -- ---- where putting ends
 place-next : (n : ℕ) → n < 4294967295 → next n ≡ n + 1

@@ -1,31 +1,29 @@
 -- How long a listing can be: at most eight bytes for each byte of an attribute.
 -- Assumes nothing.
 use Prim.Native.Nat.{ℕ, zero, suc, _+_, _-_, _*_, _/_, _≤_, _<_}
-use mathlib.Core.Path.{_≡_, refl, sym, ap, _∙_}
+use mathlib.Core.Path.{_≡_, refl, sym}
 use mathlib.Core.Bool.{Bool, true, false}
 use mathlib.Core.List.{List, [], _∷_, _++_}
 use native.Mathlib.Omega.{arith}
 use native.Mathlib.Nat.{add-zero, zero-add}
 use lib.ListN.{length, getD, length-append}
 use lib.Dec.{eqb}
-use Rattle.byte_layout.specs.Stored.{bytesAt, textAt}
 use Rattle.byte_layout.proofs.Copies.{text-short, length-stored}
 use Rattle.text_output.specs.Spelling.{ascii, each}
 use Rattle.key_value_text.specs.Lines.{Line, line, Value.hex, linesBytes}
 use Rattle.key_value_text.proofs.Lengths.{lineMost, linesMost, lines-short, lines-append}
-use Rattle.ultra_format.specs.Contexts.{Member, Member.present, Member.absent, Kernel, Entry, Body, used}
+use Rattle.ultra_format.specs.Contexts.{Member, Member.present, Member.absent, Entry, Body, used}
 use Rattle.ultra_format.specs.Members.{sizeSuits}
 use Rattle.ultra_format.specs.Decoding.{pick, platformAt, kernelAt, entriesAt, decoded, start, storedType, storedSize, storedCount, storedAttribute, attributesFrom, contextOf}
 use Rattle.ultra_format.proofs.Bodies.{by-type}
 use Rattle.ultra_format.proofs.Sizes.{platform-least, kernel-least, module-least, framebuffer-least, line-least, map-size}
-use Rattle.refusals.specs.declared.Refusal.{Refusal}
 use Rattle.refusals.specs.declared.Answer.{Answer}
 use Rattle.refusals.specs.declared.Answer.the-variants.{Done, Refused}
 use Rattle.ultra_reading.specs.Reading.{usedLength}
 use Rattle.ultra_locating.specs.Passing.{Accepts}
-use Rattle.ultra_locating.proofs.Located.{reading, inside}
-use Rattle.listing_format.specs.Listing.{commas, dotted, textual, member, guidLines, rangeLines, platformLines, kernelLines, bodyLines, attributesLines, contextLines, refusedLines, linesWhen, linesOf, listing, ListingFits}
-use Rattle.listing_format.proofs.LineLaws.{length-entries, context-lines}
+use Rattle.ultra_locating.proofs.Located.{inside}
+use Rattle.listing_format.specs.Listing.{commas, dotted, textual, member, guidLines, rangeLines, bodyLines, attributesLines, contextLines, refusedLines, linesWhen, linesOf, ListingFits}
+use Rattle.listing_format.proofs.LineLaws.{context-lines}
 
 member-most : (k : List ℕ) (m : Member) → lineMost (member k m) ≤ length k + 23
 member-most k (present n) = omega arith

@@ -9,18 +9,6 @@ use denote.Ref.{now}
 use Rattle.key_value_text.proofs.lines.absent_line.Statement.{statement}
 use Rattle.key_value_text.proofs.lines.absent_line.Tie as tie
 
-put-key-requires : tie.Need-put-key-requires
-put-key-requires c κs = search needs
-
-put-requires : tie.Need-put-requires
-put-requires c κs = search needs
-
-put-requires-2 : tie.Need-put-requires-2
-put-requires-2 c κs = search needs
-
-same-length : tie.Need-same-length
-same-length c = search needs
-
 returns : tie.Need-returns
 unfolding valueBytes
 returns c =
@@ -32,4 +20,10 @@ returns c =
 
 pub absent-line-spec : {M : Type 1} → statement M
 absent-line-spec =
-    tie.close (tie.spec put-key-requires put-requires put-requires-2 same-length returns)
+    tie.close
+    (tie.spec
+    (λ c κs. search needs)
+    (λ c κs. search needs)
+    (λ c κs. search needs)
+    (λ c. search needs)
+    returns)

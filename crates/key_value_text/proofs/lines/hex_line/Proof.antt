@@ -8,18 +8,6 @@ use denote.Ref.{now}
 use Rattle.key_value_text.proofs.lines.hex_line.Statement.{statement}
 use Rattle.key_value_text.proofs.lines.hex_line.Tie as tie
 
-put-key-requires : tie.Need-put-key-requires
-put-key-requires c κs = search needs
-
-hexadecimal-requires : tie.Need-hexadecimal-requires
-hexadecimal-requires c κs = search needs
-
-put-requires : tie.Need-put-requires
-put-requires c κs = search needs
-
-same-length : tie.Need-same-length
-same-length c = search needs
-
 returns : tie.Need-returns
 unfolding valueBytes
 returns c =
@@ -31,4 +19,10 @@ returns c =
 
 pub hex-line-spec : {M : Type 1} → statement M
 hex-line-spec =
-    tie.close (tie.spec put-key-requires hexadecimal-requires put-requires same-length returns)
+    tie.close
+    (tie.spec
+    (λ c κs. search needs)
+    (λ c κs. search needs)
+    (λ c κs. search needs)
+    (λ c. search needs)
+    returns)

@@ -7,18 +7,6 @@ use denote.Ref.{now}
 use Rattle.key_value_text.proofs.lines.numbers_line.Statement.{statement}
 use Rattle.key_value_text.proofs.lines.numbers_line.Tie as tie
 
-put-key-requires : tie.Need-put-key-requires
-put-key-requires c κs = search needs
-
-joined-requires : tie.Need-joined-requires
-joined-requires c κs = search needs
-
-put-requires : tie.Need-put-requires
-put-requires c κs = search needs
-
-same-length : tie.Need-same-length
-same-length c = search needs
-
 returns : tie.Need-returns
 unfolding valueBytes
 returns c =
@@ -30,4 +18,10 @@ returns c =
 
 pub numbers-line-spec : {M : Type 1} → statement M
 numbers-line-spec =
-    tie.close (tie.spec put-key-requires joined-requires put-requires same-length returns)
+    tie.close
+    (tie.spec
+    (λ c κs. search needs)
+    (λ c κs. search needs)
+    (λ c κs. search needs)
+    (λ c. search needs)
+    returns)

@@ -14,21 +14,6 @@ use denote.Ref.{now}
 use Rattle.key_value_text.proofs.lines.text_line.Statement.{statement}
 use Rattle.key_value_text.proofs.lines.text_line.Tie as tie
 
-put-key-requires : tie.Need-put-key-requires
-put-key-requires c κs = search needs
-
-text-length-requires : tie.Need-text-length-requires
-text-length-requires c κs = search needs
-
-escaped-requires : tie.Need-escaped-requires
-escaped-requires c κs = search needs
-
-put-requires : tie.Need-put-requires
-put-requires c κs = search needs
-
-same-length : tie.Need-same-length
-same-length c = search needs
-
 returns : tie.Need-returns
 unfolding valueBytes
 returns c =
@@ -46,4 +31,10 @@ returns c =
 pub text-line-spec : {M : Type 1} → statement M
 text-line-spec =
     tie.close
-    (tie.spec put-key-requires text-length-requires escaped-requires put-requires same-length returns)
+    (tie.spec
+    (λ c κs. search needs)
+    (λ c κs. search needs)
+    (λ c κs. search needs)
+    (λ c κs. search needs)
+    (λ c. search needs)
+    returns)
