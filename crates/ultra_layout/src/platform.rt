@@ -10,7 +10,7 @@ use ultra_format::OptionalU64;
 
 pub const LEAST_SIZE: u32 = 56;
 
-// With every member: the size that it is written with.
+// With every member.
 pub const FULL_SIZE: u32 = 88;
 
 pub const KIND: usize = 8;
