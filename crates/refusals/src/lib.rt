@@ -59,7 +59,7 @@ impl Refusal {
     pub fn at(number: u16, index: u32, offset: u32) -> Self
         ensures { λ r. ⌜ r ≡ refusalAt number index offset ⌝ }
     {
-        Self { number, offset }
+        Self::new(number, offset)
     }
 }
 

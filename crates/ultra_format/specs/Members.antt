@@ -26,7 +26,11 @@ presentIf false absent = true
 
 unfoldable pub sizeSuits : ℕ → Body → Bool
 sizeSuits s (platform p) =
-    leb 56 s && presentIf (leb (56 + 8) s) (p .higherHalfBase) && presentIf (leb (64 + 1) s) (p .depth) && presentIf (leb (72 + 8) s) (p .dtb) && presentIf (leb (80 + 8) s) (p .smbios)
+    leb 56 s
+    && presentIf (leb (56 + 8) s) (p .higherHalfBase)
+    && presentIf (leb (64 + 1) s) (p .depth)
+    && presentIf (leb (72 + 8) s) (p .dtb)
+    && presentIf (leb (80 + 8) s) (p .smbios)
 sizeSuits s (kernel k) = leb 336 s
 sizeSuits s (memoryMap es) = eqb s (8 + 24 * length es)
 sizeSuits s (moduleInfo m) = leb 96 s
