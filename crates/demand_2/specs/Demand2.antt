@@ -168,7 +168,8 @@ pub record Demand2 : Type 0 where
   -- (`run`)
   pub refusals : (b : List ℕ) (k : Call) (a : Answer) → run k b .0 ≡ answer a → (numberOf a ≡ 0 → ⊥) → run k b .1 ≡ b
   -- beyond the order: adding to any buffer that holds a context, also one that another writer began, appends exactly the attribute given
-  pub appends : (b : List ℕ) (c : Context) (g : Addition) (n : ℕ) → HoldsContext 0 b c → AdditionTyped g → added b g .0 ≡ Done n → Appended b c g (added b g .1) n
+  pub appends : (b : List ℕ) (c : Context) (g : Addition) (n : ℕ) → HoldsContext 0 b c → AdditionTyped g → added b g .0 ≡ Done n
+      → Appended b c g (added b g .1) n
   -- "With two or more, it reads back as the records given"
   pub readsBack : (b : List ℕ) (ks : List AnyCall) → begun b .0 ≡ Done 8 → AllTyped ks → 2 ≤ length (listNow b ks) → ReadsBack (bufferNow b ks) (listNow b ks)
   -- "a plain context, built again from its reading, has the same bytes": into any buffer with room for it, and nothing is refused

@@ -216,17 +216,20 @@ pub record EveryKind : Type 0 where
   -- 6 at 16, within the first attribute
   pub inside : (b : List ℕ) → length b ≡ 640 → runAny (fromC (askFromC (ultraStep 0 16))) (bufferNow b everyCall) .0 ≡ number 25769803792
   pub pastRoom : (b : List ℕ) → length b ≡ 640 → runAny (fromC (askFromC (ultraStep 0 640))) (bufferNow b everyCall) .0 ≡ number 21474837120
-  pub crooked : (b : List ℕ) → length b ≡ 65537 → runAny (fromC (askFromC (ultraStep 0 644))) (bufferNow b everyCall) .0 ≡ number 21474837124
+  pub crooked : (b : List ℕ) → length b ≡ 65537
+      → runAny (fromC (askFromC (ultraStep 0 644))) (bufferNow b everyCall) .0 ≡ number 21474837124
 
 -- ---- arguments, of any length
 -- a line of any bytes, an empty map and a platform without late members are of their types; calls that are, one after the other, are; and
 -- so are calls without an add
 pub record AnyArguments : Type 0 where
-  pub lines : (t : List ℕ) → ((i : ℕ) → getD t i 0 < 256) → AllTyped (fromRattle (write (add (addCommandLine t))) ∷ fromC (writeFromC (ultraAddMap t)) ∷ [])
+  pub lines : (t : List ℕ) → ((i : ℕ) → getD t i 0 < 256)
+      → AllTyped (fromRattle (write (add (addCommandLine t))) ∷ fromC (writeFromC (ultraAddMap t)) ∷ [])
   pub noMap : AllTyped (fromRattle (write (add (addMap []))) ∷ [])
   pub noMembers : AllTyped (fromRattle (write (add (addPlatform absentPlatform))) ∷ [])
   pub joined : (ks js : List AnyCall) → AllTyped ks → AllTyped js → AllTyped (ks ++ js)
-  pub reading : (k : AnyCall) → ((g : Addition) → inRattle k ≡ write (add g) → ⊥) → ((m : Members) → inRattle k ≡ write (addMembers m) → ⊥) → AllTyped (k ∷ [])
+  pub reading : (k : AnyCall) → ((g : Addition) → inRattle k ≡ write (add g) → ⊥) → ((m : Members) → inRattle k ≡ write (addMembers m) → ⊥)
+      → AllTyped (k ∷ [])
 
 -- two attributes
 abbrev pub two : List Addition
@@ -244,7 +247,8 @@ pub record TwoAreEnough : Type 0 where
 -- a call from C that is refused changes nothing, in any buffer; and an add of members that changes a buffer is the add of a record
 pub record FromCAndMembers : Type 0 where
   pub keeps : (b : List ℕ) (k : CallFromC) (a : Answer) → run (asked k) b .0 ≡ answer a → (numberOf a ≡ 0 → ⊥) → runFromC k b .1 ≡ b
-  pub asRecord : (b : List ℕ) (m : Members) → MembersTyped m → (runWrite (addMembers m) b .1 ≡ b → ⊥) → (g : Addition) × (bodyGiven g ≡ membersBody m) × (runWrite (addMembers m) b ≡ runWrite (add g) b)
+  pub asRecord : (b : List ℕ) (m : Members) → MembersTyped m → (runWrite (addMembers m) b .1 ≡ b → ⊥)
+      → (g : Addition) × (bodyGiven g ≡ membersBody m) × (runWrite (addMembers m) b ≡ runWrite (add g) b)
 
 -- a head of version 2.7 that counts nothing, its reserved bytes 165, and 93 bytes after it
 abbrev pub otherHead : List ℕ
@@ -266,4 +270,5 @@ pub record Witnessed : Type 0 where
   pub headless : (b : List ℕ) → length b ≡ 7 → begun b ≡ (refused SHORT 0, b)
   pub other : Appended otherHead (contextOf otherHead) (addPlatform (everyPlatformRecord .platform)) (added otherHead (addPlatform (everyPlatformRecord .platform)) .1) 96
   -- the bytes before the count, and those after the new attribute, stay
-  pub otherKept : (i : ℕ) → (i < 4) ⊎ (96 ≤ i) → getD (added otherHead (addPlatform (everyPlatformRecord .platform)) .1) i 0 ≡ getD otherHead i 0
+  pub otherKept : (i : ℕ) → (i < 4) ⊎ (96 ≤ i)
+      → getD (added otherHead (addPlatform (everyPlatformRecord .platform)) .1) i 0 ≡ getD otherHead i 0

@@ -161,7 +161,8 @@ pub record Witnessed : Type 0 where
   pub types : (i : ℕ) → i < 7 → typeAt everyType i ≡ suc i
   pub whole : readingOf everyTypeBytes ≡ Accepted (record { major = 2; minor = 7 }) 688
   -- what stands beside a refusal, and in the records of other types
-  pub nothingBeside : (r : Answer) → unanswered r ≡ record { answer = r; header = record { kind = 0; start = 0; size = 0 }; records = nothing; part = record { start = 0; length = 0 } }
+  pub nothingBeside : (r : Answer)
+      → unanswered r ≡ record { answer = r; header = record { kind = 0; start = 0; size = 0 }; records = nothing; part = record { start = 0; length = 0 } }
   pub each : (i : ℕ) → i < 7 → attributeAnswer everyTypeBytes i ≡ getD everyAnswers i (unanswered (refused COUNT 0))
   pub past : (i : ℕ) → 7 ≤ i → attributeAnswer everyTypeBytes i ≡ unanswered (refused COUNT 688)
   pub entries : partAt everyTypeBytes 2 ≡ everyEntries

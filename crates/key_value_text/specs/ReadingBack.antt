@@ -88,7 +88,8 @@ pub record ReadsBack : Type 0 where
   pub hex : (l : List ℕ) → All Byte l → bytesIn (each hexPair l) ≡ l
   pub text : (t : List ℕ) → All Byte t → textIn (each spelled t) ≡ t
   -- a line's key ends with its first `=`, and its value with the first newline after that
-  pub key : (x : Line) (rest : List ℕ) → All (Differs (code "=")) (x .key) → cut (code "=") (lineBytes x ++ rest) ≡ (x .key, valueBytes (x .value) ++ (code "\n" ∷ rest))
+  pub key : (x : Line) (rest : List ℕ) → All (Differs (code "=")) (x .key)
+      → cut (code "=") (lineBytes x ++ rest) ≡ (x .key, valueBytes (x .value) ++ (code "\n" ∷ rest))
   pub value : (v : Value) (rest : List ℕ) → Separated v → cut (code "\n") (valueBytes v ++ (code "\n" ∷ rest)) ≡ (valueBytes v, rest)
 
 -- its premises leave nothing out that a listing has: the largest number of 64 bits, every byte, and both separators. Proved from the

@@ -70,7 +70,8 @@ SilentOverwritten = (b : List ℕ) (i x : ℕ) → Silent (contextOf b) i → Re
 
 -- whatever bytes reading accepts, steps go through the list that the buffer holds
 abbrev pub AcceptedSteps : Type 0
-AcceptedSteps = (b : List ℕ) → ((i : ℕ) → getD b i 0 < 256) → readingNumber (readingOf b) ≡ 0 → (c : Context) × HoldsContext 2 b c × StepsThrough b c
+AcceptedSteps = (b : List ℕ) → ((i : ℕ) → getD b i 0 < 256) → readingNumber (readingOf b) ≡ 0
+    → (c : Context) × HoldsContext 2 b c × StepsThrough b c
 
 -- so they go through the context with every type, which is not plain
 abbrev pub StepsThroughEveryType : Type 0

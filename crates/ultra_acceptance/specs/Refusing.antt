@@ -92,8 +92,10 @@ pub data Refuses (fewest : ℕ) (b : List ℕ) (n : ℕ) : ℕ → Type 0 where
 -- Both are 01's number and value of the answer. It is over whole refusals: with one more member in a refusal, which the table left open,
 -- it would be false
 abbrev pub RefusesExactly : Type 0
-RefusesExactly = (fewest : ℕ) (b : List ℕ) (r : Refusal) → (usedLength fewest b ≡ Refused r) ↔ Refuses fewest b (numberOf (Refused r)) (valueOf (Refused r))
+RefusesExactly = (fewest : ℕ) (b : List ℕ) (r : Refusal)
+    → (usedLength fewest b ≡ Refused r) ↔ Refuses fewest b (numberOf (Refused r)) (valueOf (Refused r))
 
 -- and by the reading call, with "count below 2"
 abbrev pub ReadingRefuses : Type 0
-ReadingRefuses = (b : List ℕ) (r : Refusal) → (readingOf b ≡ reading.Refused r) ↔ Refuses 2 b (readingNumber (reading.Refused r)) (readingValue (reading.Refused r))
+ReadingRefuses = (b : List ℕ) (r : Refusal)
+    → (readingOf b ≡ reading.Refused r) ↔ Refuses 2 b (readingNumber (reading.Refused r)) (readingValue (reading.Refused r))

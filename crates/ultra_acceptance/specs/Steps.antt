@@ -59,7 +59,8 @@ pub record StepGives (b : List ℕ) (k : Cursor) (h : Header) (m : Cursor) : Typ
 -- ---- the statements
 -- over whole refusals, as RefusesExactly is
 pub record StepsExactly : Type 0 where
-  pub refuses : (b : List ℕ) (k : Cursor) (r : Refusal) → (stepOf b k ≡ Refused r) ↔ StepRefuses b k (stepNumber (Refused r)) (stepValue (Refused r))
+  pub refuses : (b : List ℕ) (k : Cursor) (r : Refusal)
+      → (stepOf b k ≡ Refused r) ↔ StepRefuses b k (stepNumber (Refused r)) (stepValue (Refused r))
   pub ends : (b : List ℕ) (k : Cursor) → (stepOf b k ≡ End) ↔ StepEnds b k
   pub gives : (b : List ℕ) (k : Cursor) (h : Header) (m : Cursor) → (stepOf b k ≡ Attribute h m) ↔ StepGives b k h m
   -- "0 is success"; "A step's value is the next cursor's offset, or 0 at the end."
@@ -74,7 +75,8 @@ cursorOf c i = record { index = i; offset = startIn (c .attributes) i }
 pub record StepsThrough (b : List ℕ) (c : Context) : Type 0 where
   -- "the first is 0 and 8"
   pub first : cursorOf c 0 ≡ record { index = 0; offset = 8 }
-  pub each : (i : ℕ) → i < count c → stepOf b (cursorOf c i) ≡ Attribute (record { kind = typeAt c i; start = startIn (c .attributes) i; size = sizeAt c i }) (cursorOf c (i + 1))
+  pub each : (i : ℕ) → i < count c
+      → stepOf b (cursorOf c i) ≡ Attribute (record { kind = typeAt c i; start = startIn (c .attributes) i; size = sizeAt c i }) (cursorOf c (i + 1))
   -- "answers the end if the index is at or past the count", and else not
   pub ends : (k : Cursor) → (stepOf b k ≡ End) ↔ (count c ≤ k .index)
 

@@ -49,7 +49,8 @@ pub data AdditionBreaks (room : ℕ) (c : Context) (formed : Bool) (given : Body
   -- "type 3, 5 or 6 occurred earlier"
   repeat : single (typeOf given) ≡ true → Occurs c (typeOf given) → AdditionBreaks room c formed given REPEAT
   -- "type 4 or from 7 up, occurred earlier, and the attribute just before has another type"
-  split : repeatable (typeOf given) ≡ true → Occurs c (typeOf given) → (typeAt c (count c - 1) ≡ typeOf given → ⊥) → AdditionBreaks room c formed given SPLIT
+  split : repeatable (typeOf given) ≡ true → Occurs c (typeOf given) → (typeAt c (count c - 1) ≡ typeOf given → ⊥)
+      → AdditionBreaks room c formed given SPLIT
   -- "12 is given if their count is no multiple of three", and toward C "12 for a map not of 24n bytes or a GUID not of 16" (`formed`,
   -- `mapFormed`, `guidsFormed`). "A platform record with an absent member is refused as 12."
   unformed : formed ≡ false → AdditionBreaks room c formed given FORM
@@ -77,7 +78,8 @@ pub data AddRefused (b : List ℕ) (formed : Bool) (given : Body) (n : ℕ) : �
   -- "first reads the buffer by all rules but the lower limit of the count, and gives that refusal"
   reading : (o : ℕ) → Refuses 0 b n o → AddRefused b formed given n o
   -- "Then, with the used length as offset"
-  adding : (c : Context) → HoldsContext 0 b c → FirstBroken (AdditionBreaks (roomOf b) c formed given) n → AddRefused b formed given n (used c)
+  adding : (c : Context) → HoldsContext 0 b c → FirstBroken (AdditionBreaks (roomOf b) c formed given) n
+      → AddRefused b formed given n (used c)
 
 -- ---- the statements
 -- over whole refusals, as RefusesExactly is (crate ultra_acceptance)
@@ -88,7 +90,8 @@ AddingRefuses =
 
 -- "the buffer and all lent memory are unchanged"
 abbrev pub RefusedAddKeeps : Type 0
-RefusedAddKeeps = (b : List ℕ) (formed : Bool) (given : Body) (r : Refusal) → addedMembers b formed given .0 ≡ Refused r → addedMembers b formed given .1 ≡ b
+RefusedAddKeeps = (b : List ℕ) (formed : Bool) (given : Body) (r : Refusal) → addedMembers b formed given .0 ≡ Refused r
+    → addedMembers b formed given .1 ≡ b
 
 -- "0 is success, with the used length after it"
 abbrev pub AddingSucceeds : Type 0
@@ -108,7 +111,8 @@ EveryAdd =
 -- and only one of these: the table gives an add one answer
 abbrev pub OneAnswer : Type 0
 OneAnswer =
-    (b : List ℕ) (formed : Bool) (given : Body) (r : Refusal) → ((i : ℕ) → getD b i 0 < 256) → AddRefused b formed given (numberOf (Refused r)) (valueOf (Refused r))
+    (b : List ℕ) (formed : Bool) (given : Body) (r : Refusal) → ((i : ℕ)
+    → getD b i 0 < 256) → AddRefused b formed given (numberOf (Refused r)) (valueOf (Refused r))
     → ((s : Refusal) → AddRefused b formed given (numberOf (Refused s)) (valueOf (Refused s)) → s ≡ r)
     × ((c : Context) → HoldsContext 0 b c → NoneBreaks (AdditionBreaks (roomOf b) c formed given) → ⊥)
 

@@ -88,7 +88,8 @@ platformOf kind major minor name rsdp base depth dtb smbios =
       smbios = present smbios;
     }
 
-abbrev pub kernelOf : (physical virtual size partitionType : ℕ) (disk partition : List ℕ) (diskIndex partitionIndex : ℕ) (path : List ℕ) → Body
+abbrev pub kernelOf : (physical virtual size partitionType : ℕ) (disk partition : List ℕ) (diskIndex partitionIndex : ℕ) (path : List ℕ)
+    → Body
 kernelOf physical virtual size partitionType disk partition diskIndex partitionIndex path =
     kernel record {
       physicalBase = physical;

@@ -52,7 +52,8 @@ pub record MemberRules : Type 0 where
       ↔ ((1 ≤ k .partitionType) × Multiple 4096 (k .physicalBase) × Multiple 4096 (k .virtualBase) × Multiple 4096 (k .size))
   pub mapValues : (es : List Entry) → (values (memoryMap es) ≡ true) ↔ ((i : ℕ) → i < length es → 1 ≤ entryIn es i .entryType)
   -- "module type 1 or 2"
-  pub moduleValues : (m : Module) → (values (moduleInfo m) ≡ true) ↔ (((m .moduleType ≡ 1) ⊎ (m .moduleType ≡ 2)) × Multiple 4096 (m .address))
+  pub moduleValues : (m : Module)
+      → (values (moduleInfo m) ≡ true) ↔ (((m .moduleType ≡ 1) ⊎ (m .moduleType ≡ 2)) × Multiple 4096 (m .address))
   -- "framebuffer format 1 to 4, bpp 24 for formats 1 and 2 and 32 for 3 and 4, pitch × 8 at least width × bpp"
   pub framebufferValues : (f : Framebuffer) → (values (framebuffer f) ≡ true)
       ↔ ((((1 ≤ f .format) × (f .format ≤ 2) × (f .bpp ≡ 24)) ⊎ ((3 ≤ f .format) × (f .format ≤ 4) × (f .bpp ≡ 32))) × (f .width * f .bpp ≤ f .pitch * 8))
@@ -65,7 +66,8 @@ pub record MemberRules : Type 0 where
   pub lineText : (s : ℕ) (t : List ℕ) → (texts s (commandLine t) ≡ true) ↔ AsciiWithin (s - 8) t
   -- "ranges"
   pub kernelRanges : (k : Kernel) → (ranges (kernel k) ≡ true) ↔ (Ends (k .physicalBase) (k .size) × Ends (k .virtualBase) (k .size))
-  pub mapRanges : (es : List Entry) → (ranges (memoryMap es) ≡ true) ↔ ((i : ℕ) → i < length es → Ends (entryIn es i .address) (entryIn es i .size))
+  pub mapRanges : (es : List Entry)
+      → (ranges (memoryMap es) ≡ true) ↔ ((i : ℕ) → i < length es → Ends (entryIn es i .address) (entryIn es i .size))
   pub moduleRanges : (m : Module) → (ranges (moduleInfo m) ≡ true) ↔ Ends (m .address) (m .size)
   pub framebufferRanges : (f : Framebuffer) → (ranges (framebuffer f) ≡ true) ↔ Ends (f .address) (f .pitch * f .height)
   -- "12 is given if their count is no multiple of three"; "12 for a map not of 24n bytes or a GUID not of 16"

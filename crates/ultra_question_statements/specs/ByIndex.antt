@@ -44,10 +44,12 @@ pub record ByIndex (b : List ℕ) (c : Context) : Type 0 where
   pub map : (i : ℕ) (es : List Entry) (out : List ℕ) → i < count c → bodyAt c i ≡ memoryMap es → 3 * length es ≤ length out
       → mapCopied b out ≡ (Done (length es), over (numbers es) out)
   -- "64-bit lists as bytes, eight to a number": those of the map's part of the buffer
-  pub mapBytes : (i : ℕ) (es : List Entry) (out : List ℕ) → Bytes out → i < count c → bodyAt c i ≡ memoryMap es → 3 * length es ≤ length out / 8
+  pub mapBytes : (i : ℕ) (es : List Entry) (out : List ℕ) → Bytes out → i < count c → bodyAt c i ≡ memoryMap es
+      → 3 * length es ≤ length out / 8
       → mapCopiedBytes b out ≡ (Done (length es), over (partBytes (memoryMap es)) out)
   -- "The command line is handed back as that part of the buffer, up to its zero; an empty part if there is none": where it is, and its text
-  pub line : (i : ℕ) (t : List ℕ) → i < count c → bodyAt c i ≡ commandLine t → (commandLinePart b ≡ part (startIn (c .attributes) i + 8) (length t)) × (textIn c ≡ t)
+  pub line : (i : ℕ) (t : List ℕ) → i < count c → bodyAt c i ≡ commandLine t
+      → (commandLinePart b ≡ part (startIn (c .attributes) i + 8) (length t)) × (textIn c ≡ t)
   pub noLine : ((i : ℕ) → i < count c → typeAt c i ≡ 5 → ⊥) → (commandLinePart b ≡ noPart) × (textIn c ≡ [])
 
 abbrev pub QuestionsByIndex : Type 0

@@ -44,17 +44,21 @@ LineHeld b lent s =
 pub record AnswersOf (b : List ℕ) : Type 0 where
   pub attributeRefused : (i : ℕ) (r : Refusal) → (attributeStart b i ≡ Refused r) ↔ RefusedBy b r (λ c. IndexRefused c i r)
   pub mapRefused : (out : List ℕ) (r : Refusal) → (mapCopied b out .0 ≡ Refused r) ↔ RefusedBy b r (λ c. MapRefused c (length out) r)
-  pub bytesRefused : (out : List ℕ) (r : Refusal) → (mapCopiedBytes b out .0 ≡ Refused r) ↔ RefusedBy b r (λ c. MapRefused c (length out / 8) r)
+  pub bytesRefused : (out : List ℕ) (r : Refusal)
+      → (mapCopiedBytes b out .0 ≡ Refused r) ↔ RefusedBy b r (λ c. MapRefused c (length out / 8) r)
   pub moduleRefused : (a : ℕ) (r : Refusal) → (moduleHolding b a ≡ Refused r) ↔ (readingOf b ≡ reading.Refused r)
   -- "the buffer and all lent memory are unchanged"
   pub mapKept : (out : List ℕ) (r : Refusal) → mapCopied b out .0 ≡ Refused r → mapCopied b out .1 ≡ out
-  pub bytesKept : (out : List ℕ) (r : Refusal) → ((i : ℕ) → getD out i 0 < 256) → mapCopiedBytes b out .0 ≡ Refused r → mapCopiedBytes b out .1 ≡ out
+  pub bytesKept : (out : List ℕ) (r : Refusal) → ((i : ℕ) → getD out i 0 < 256) → mapCopiedBytes b out .0 ≡ Refused r
+      → mapCopiedBytes b out .1 ≡ out
   -- where the answer at an index is a refusal, the slice that is handed back has no bytes
-  pub noPart : (lent s : RefT (List ℕ)) (i : ℕ) (r : Refusal) → s .now ≡ b → attributeStart b i ≡ Refused r → PartHandedBack lent s i → lent .now ≡ []
+  pub noPart : (lent s : RefT (List ℕ)) (i : ℕ) (r : Refusal) → s .now ≡ b → attributeStart b i ≡ Refused r → PartHandedBack lent s i
+      → lent .now ≡ []
   -- where nothing is refused
   pub attributeStarts : (i o : ℕ) → attributeStart b i ≡ Done o
       → (c : Context) × HoldsContext 2 b c × (i < count c) × (o ≡ startIn (c .attributes) i) × (attributeAnswer b i ≡ answered o (attributeAt c i))
-  pub mapCopies : (out : List ℕ) (n : ℕ) → mapCopied b out .0 ≡ Done n → (es : List Entry) × MapHeld b es × (n ≡ length es) × (mapCopied b out .1 ≡ over (numbers es) out)
+  pub mapCopies : (out : List ℕ) (n : ℕ) → mapCopied b out .0 ≡ Done n
+      → (es : List Entry) × MapHeld b es × (n ≡ length es) × (mapCopied b out .1 ≡ over (numbers es) out)
   pub bytesCopied : (out : List ℕ) (n : ℕ) → ((i : ℕ) → getD out i 0 < 256) → mapCopiedBytes b out .0 ≡ Done n
       → (es : List Entry) × MapHeld b es × (n ≡ length es) × (mapCopiedBytes b out .1 ≡ over (partBytes (memoryMap es)) out)
   pub moduleStart : (a o : ℕ) → (moduleHolding b a ≡ Done o) ↔ ((c : Context) × HoldsContext 2 b c × ModuleStart c a o)

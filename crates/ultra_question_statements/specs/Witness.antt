@@ -28,7 +28,8 @@ pub record Witnessed : Type 0 where
   -- two entries, six numbers
   pub map : (a b c d e f : ℕ) (rest : List ℕ)
       → mapCopied everyTypeBytes (a ∷ b ∷ c ∷ d ∷ e ∷ f ∷ rest) ≡ (Done 2, 0 ∷ 18446744073709547520 ∷ 1 ∷ 18446744073709547520 ∷ 4096 ∷ 4294967296 ∷ rest)
-  pub tooShort : (out : List ℕ) → length out ≡ 5 → (mapCopied everyTypeBytes out .0 ≡ refused 18 688) × (mapCopied everyTypeBytes out .1 ≡ out)
+  pub tooShort : (out : List ℕ) → length out ≡ 5
+      → (mapCopied everyTypeBytes out .0 ≡ refused 18 688) × (mapCopied everyTypeBytes out .1 ≡ out)
   -- in bytes, 48
   pub mapBytes : (out : List ℕ) → length out ≡ 48 → ((i : ℕ) → getD out i 0 < 256) → mapCopiedBytes everyTypeBytes out .0 ≡ Done 2
   pub bytesTooShort : (out : List ℕ) → length out ≡ 47 → mapCopiedBytes everyTypeBytes out .0 ≡ refused 18 688
