@@ -1,4 +1,4 @@
-// Reading a lent context. Stepping through it is passed on.
+// Reading a lent context. Stepping, and the check of where a type may stand, are passed on.
 mod walk;
 
 ghost use mathlib.Core.Path.{_≡_};
