@@ -1,5 +1,5 @@
 -- Rules on addresses and on ranges of them, in whole numbers: no sum wraps.
--- Assumes nothing.
+-- A reader has to believe this file.
 use Prim.Native.Nat.{ℕ, _+_, _%_}
 use mathlib.Core.Bool.{Bool, _&&_}
 use lib.Dec.{leb, ltb, eqb}

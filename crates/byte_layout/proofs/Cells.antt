@@ -1,5 +1,4 @@
 -- Cells that lie in a buffer: by index, as the definitions say it, and along the list, as proofs by induction want it.
--- Assumes nothing.
 use Prim.Native.Nat.{ℕ, zero, suc, _+_, _≤_, _<_}
 use mathlib.Core.Path.{_≡_, refl, sym, ap, ap₂, _∙_}
 use mathlib.Core.List.{List, [], _∷_, _++_}

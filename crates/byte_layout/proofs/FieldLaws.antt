@@ -1,6 +1,5 @@
 -- The two laws of a layout: what its cells, lying in a buffer, say of the values that are stored there, and back. Proved once for
 -- each kind of field, and lifted to fields in a row.
--- Assumes nothing.
 use Prim.Native.Nat.{ℕ, zero, suc, _+_, _-_, _/_, _^_, _<_}
 use mathlib.Core.Path.{_≡_, refl, sym, ap, ap₂, _∙_, subst}
 use mathlib.Core.List.{List, [], _∷_, _++_, append-assoc}

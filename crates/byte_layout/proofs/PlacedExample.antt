@@ -1,5 +1,4 @@
 -- Proofs of the statements in specs/PlacedExample.antt.
--- Assumes nothing.
 use Prim.Native.Nat.{ℕ, _+_}
 use mathlib.Core.Path.{_≡_, refl, sym, subst}
 use mathlib.Core.List.{List, [], _∷_, _++_}

@@ -1,5 +1,4 @@
 -- Laws of placed fields: what a second buffer needs to be opened alike, one row as a layout, and a text at its place.
--- Assumes nothing.
 use Prim.Native.Nat.{ℕ, zero, suc, _+_, _≤_, _<_}
 use mathlib.Core.Path.{_≡_, refl, sym, _∙_, subst}
 use mathlib.Core.Logic.{_↔_}

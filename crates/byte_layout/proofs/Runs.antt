@@ -1,6 +1,5 @@
 -- Runs of bytes stored one after the other, all of them in room, and the cells that lie where a run stands. A writer's contract is
 -- `exit ≡ replaced entry at n x`; `grown` joins two of them.
--- Assumes nothing.
 use Prim.Native.Nat.{ℕ, zero, suc, _+_, _≤_, _<_}
 use mathlib.Core.Path.{_≡_, refl, sym, ap, ap₂, _∙_}
 use mathlib.Core.List.{List, [], _∷_, _++_, append-nil}

@@ -1,6 +1,6 @@
 -- A byte layout as data: fields in a row, each with its value. What the bytes of a layout are, which of them are silent, what a
 -- writer writes, how wide it is and whether the values fit are each one function of a field. No format in particular is here.
--- Assumes nothing.
+-- A reader has to believe this file.
 use Prim.Native.Nat.{ℕ, zero, suc, _+_, _^_, _≤_, _<_}
 use mathlib.Core.Path.{_≡_}
 use mathlib.Core.List.{List, [], _∷_, _++_}

@@ -1,5 +1,5 @@
 -- What stands in a buffer at a field's place: raw bytes and texts. (Numbers: numberAt, of crate words.)
--- Assumes nothing.
+-- A reader has to believe this file.
 use Prim.Native.Nat.{ℕ, zero, suc, _+_, _<_}
 use mathlib.Core.List.{List, [], _∷_, _++_}
 use lib.ListN.{length, getD, drop}

@@ -1,5 +1,4 @@
 -- What an add is given becomes an attribute that meets the rules and fits its fields, where it breaks none of 12 to 16.
--- Assumes nothing.
 use Prim.Native.Nat.{ℕ, zero, suc, _-_, _≤_, _<_, _%_}
 use mathlib.Core.Path.{_≡_, refl, _∙_}
 use mathlib.Core.Bool.{Bool, true, _&&_}

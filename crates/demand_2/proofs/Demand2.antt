@@ -1,6 +1,5 @@
 -- Demand 2 holds. The calls keep buffer and list alike (Following) and answer by the list (Replies), and what is read back of a buffer
 -- are the records of its attributes (ReadingBack, Rebuilding).
--- Assumes nothing.
 use Prim.Native.Nat.{ℕ, _+_, _-_, _≤_, _<_}
 use mathlib.Core.Path.{_≡_, refl, ap, _∙_, subst, sym}
 use mathlib.Core.Bool.{Bool, true, false}

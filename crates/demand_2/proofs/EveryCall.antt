@@ -1,5 +1,4 @@
 -- The demand used where its premises end: calls of every kind, the widest arguments, two attributes, a head that another writer began.
--- Assumes nothing.
 use Prim.Native.Nat.{ℕ, zero, suc, _+_, _%_, _<_, _≤_}
 use mathlib.Core.Path.{_≡_, refl, sym, ap, ap₂, _∙_, subst}
 use mathlib.Core.Bool.{Bool, true, false}

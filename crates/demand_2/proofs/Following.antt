@@ -1,5 +1,4 @@
 -- After every call the buffer is as the list says.
--- Assumes nothing.
 use Prim.Native.Nat.{ℕ, zero, suc, _+_, _≤_, _<_, min}
 use mathlib.Core.Bool.{Bool}
 use mathlib.Core.Path.{_≡_, refl, sym, ap, _∙_, subst}
@@ -24,9 +23,8 @@ use Rattle.byte_layout.proofs.Cells.{at-opens}
 use Rattle.ultra_acceptance.specs.Acceptance.{HoldsContext}
 use Rattle.ultra_acceptance.proofs.Acceptance.{complete}
 use Rattle.ultra_building.specs.Building.{emptyHead, begun}
-use Rattle.ultra_appending.specs.Appending.{appendCheck}
 use Rattle.ultra_adding.specs.Adding.{addedAt, addedMembers, added}
-use Rattle.ultra_adding.proofs.Adding.{membersCheckOn, members-held, checkOn}
+use Rattle.ultra_adding.proofs.Adding.{membersCheckOn, members-held}
 use Rattle.demand_2.specs.Calls.{Members, membersFormed, membersBody, Write.begin, Write.add, Write.addMembers}
 use Rattle.demand_2.specs.Calls.{Call, Call.write, Call.ask, Reply, replyOf, runWrite, run}
 use Rattle.demand_2.specs.CallsFromC.{CallFromC, CallFromC.writeFromC, CallFromC.askFromC, replyFromC, runWriteFromC, runFromC, asked, replyCrossed}
@@ -34,10 +32,10 @@ use Rattle.demand_2.specs.CallsFromC.{QuestionFromC.ultraRead, QuestionF
 use Rattle.demand_2.specs.CallsFromC.{WriteFromC.ultraBegin, WriteFromC.ultraAddPlatform, WriteFromC.ultraAddKernel, WriteFromC.ultraAddMap, WriteFromC.ultraAddModule, WriteFromC.ultraAddCommandLine, WriteFromC.ultraAddFramebuffer}
 use Rattle.demand_2.specs.CallsFromC.{AnyCall, AnyCall.fromRattle, AnyCall.fromC, inRattle, runAny, after}
 use Rattle.demand_2.specs.Arguments.{AdditionTyped, MembersTyped, CallTyped, AllTyped}
-use Rattle.ultra_appending.proofs.Appending.{Appendable, appendable}
+use Rattle.ultra_appending.proofs.Appending.{appendable}
 use Rattle.demand_2.specs.Model.{attributesGiven, contextGiven, typesAfter, membersRefusal, refusalOf, giving, appended, listAfter, listAfterAll}
 use Rattle.demand_2.specs.Demand2.{Follows}
-use Rattle.demand_2.proofs.GivenMembers.{RecordOf, record-of, same-run}
+use Rattle.demand_2.proofs.GivenMembers.{record-of, same-run}
 use Rattle.demand_2.proofs.Appending.{all-more, says-type, sound, left-length, written-left, held-more, total-more}
 
 -- ---- the list

@@ -1,5 +1,4 @@
 -- Members given one by one, of their types: an add of them is the add of the record that has them, or is refused.
--- Assumes nothing.
 use Prim.Native.Nat.{ℕ, zero, suc, _+_, _/_, _<_}
 use mathlib.Core.Path.{_≡_, refl, sym, ap, _∙_}
 use mathlib.Core.Bool.{Bool, true}
@@ -11,8 +10,7 @@ use Rattle.words.specs.Words.{numbersAt, numbersIn}
 use Rattle.byte_layout.specs.Fields.{Fits}
 use Rattle.byte_layout.specs.Stored.{Bytes}
 use Rattle.byte_layout.proofs.FieldLaws.{number-fits}
-use Rattle.refusals.specs.Answers.{numberOf}
-use Rattle.ultra_format.specs.Contexts.{Body, typeOf}
+use Rattle.ultra_format.specs.Contexts.{typeOf}
 use Rattle.ultra_format.specs.Layouts.{bodyFields}
 use Rattle.ultra_format.specs.Members.{texts}
 use Rattle.ultra_format.specs.Rules.{TypeSuits}
@@ -21,7 +19,7 @@ use Rattle.ultra_format.specs.Additions.{bodyGiven, formed, givenCheck, sizeGiv
 use Rattle.refusals.specs.declared.Answer.{Answer}
 use Rattle.refusals.specs.declared.Answer.the-variants.{Done, Refused}
 use Rattle.ultra_acceptance.proofs.Walked.{BodyHolds}
-use Rattle.ultra_adding.specs.Adding.{addedAt, addedMembers}
+use Rattle.ultra_adding.specs.Adding.{addedMembers}
 use Rattle.ultra_adding.proofs.Adding.{given-holds}
 use Rattle.ultra_adding.proofs.GivenMembers.{guids-wide}
 use Rattle.demand_2.specs.Calls.{Members, membersFormed, membersBody, answerAnd, runWrite}

@@ -1,5 +1,4 @@
 -- A buffer that holds the context of additions reads back as those additions.
--- Assumes (addCommandLine []).
 use Prim.Native.Nat.{ℕ, zero, suc, _<_}
 use mathlib.Core.Path.{_≡_, refl, sym, ap, ap₂, _∙_, subst}
 use mathlib.Core.List.{List, [], _∷_}

@@ -1,6 +1,5 @@
 -- A plain context is built again from its reading. The additions that are read back are those of its bodies, so that the context is
 -- theirs; as it meets the rules, none of them is refused, and a buffer that follows them begins with what a writer writes of it.
--- Assumes nothing.
 use Prim.Native.Nat.{ℕ, zero, suc, _+_, _≤_, _<_}
 use mathlib.Core.Path.{_≡_, refl, sym, ap, _∙_, subst}
 use mathlib.Core.List.{List, [], _∷_, _++_, append-nil}

@@ -1,6 +1,5 @@
 -- An attribute's body and the addition that gives it: what the attribute question answers of a body is that addition, which is of its
 -- types and breaks no rule where the body meets the rules and is written in its own size.
--- Assumes nothing.
 use Prim.Native.Nat.{ℕ, zero, suc, _-_, _*_, _/_, _%_, _<_}
 use mathlib.Core.Path.{_≡_, refl, ap, _∙_}
 use mathlib.Core.Bool.{true}

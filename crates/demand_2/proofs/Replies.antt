@@ -1,5 +1,4 @@
 -- Every call answers by the list, where the buffer follows it.
--- Assumes nothing.
 use Prim.Native.Nat.{ℕ, zero, suc, _+_, _*_, _%_, _≤_, _<_}
 use mathlib.Core.Path.{_≡_, refl, sym, ap, ap₂, _∙_}
 use mathlib.Core.Bool.{Bool, true, false, _&&_}
@@ -15,7 +14,7 @@ use Rattle.key_value_text.specs.Lines.{Line, linesBytes}
 use Rattle.byte_layout.specs.Stored.{bytesAt}
 use Rattle.refusals.specs.Refusals.{MISSING}
 use Rattle.refusals.specs.Answers.{refused, orRefused}
-use Rattle.ultra_format.specs.Contexts.{Body, Context, count, sizeAt, used, total}
+use Rattle.ultra_format.specs.Contexts.{Body, Context, count, used, total}
 use Rattle.ultra_format.specs.Layouts.{roomOf, written}
 use Rattle.ultra_format.specs.Rules.{Meets}
 use Rattle.ultra_format.specs.Decoding.{pick, start, storedCount}
@@ -33,8 +32,6 @@ use Rattle.ultra_stepping.specs.declared.cursor.Step.{Step}
 use Rattle.ultra_stepping.specs.declared.cursor.Step.the-variants as stepping
 use Rattle.ultra_stepping.proofs.HeadLaws.{HeadHolds, stop-missing, head-passes}
 use Rattle.ultra_reading.proofs.ReadingLaws.{accepted-head, head-refuses}
-use Rattle.ultra_stepping.proofs.BoundsLaws.{bounds-pass}
-use Rattle.ultra_stepping.proofs.StepLaws.{only-bounds, step-next}
 use Rattle.ultra_acceptance.specs.Acceptance.{HoldsContext}
 use Rattle.ultra_acceptance.proofs.Walked.{Accepted, accepted}
 use Rattle.ultra_acceptance.proofs.Acceptance.{complete, rehoused, held-reading}
@@ -60,7 +57,6 @@ use Rattle.demand_2.specs.CallsFromC.{replyCrossed, AnyCall, inRattle, r
 use Rattle.demand_2.specs.CallsFromC.{AnyCall.fromRattle, AnyCall.fromC}
 use Rattle.demand_2.specs.Model.{contextGiven, membersRefusal, refusalOf, giving, addAnswer, tooFew, stepWithin, stepIn, partIn, repliesIn, replyTo, anyReply, attributesGiven}
 use Rattle.demand_2.specs.Demand2.{Follows, Undetermined}
-use Rattle.demand_2.proofs.Appending.{says-type}
 use Rattle.demand_2.proofs.Following.{says-given, begun-is, long, added-is, used-more, crosses}
 use Rattle.demand_2.proofs.GivenMembers.{members-size}
 

@@ -1,5 +1,4 @@
 -- A plain context, built from its records, is its bytes: they are built again from what is read back of them, and that is the records.
--- Assumes nothing.
 use Prim.Native.Nat.{ℕ, _≤_, _<_}
 use mathlib.Core.Path.{_≡_, refl, sym, _∙_, subst}
 use mathlib.Core.List.{List, [], _∷_, _++_}

@@ -1,5 +1,4 @@
 -- The consequences, from the statement of demand 3 alone.
--- Assumes nothing.
 use Prim.Native.Nat.{ℕ, _≤_}
 use mathlib.Core.Path.{sym, ap, subst}
 use mathlib.Core.List.{List, _++_}

@@ -1,5 +1,4 @@
 -- Demand 3 holds. The one context that a buffer can hold is the one that is decoded from it, and the calls answer by that one.
--- Assumes nothing.
 use Prim.Native.Nat.{ℕ, _≤_, _<_}
 use mathlib.Core.Path.{_≡_, refl, sym, ap, _∙_, subst}
 use mathlib.Core.Bool.{Bool, true, false}

@@ -1,6 +1,5 @@
 -- The reading determines the list: each attribute is found back in the answer at its index and in the bytes of its part, and the count
 -- in where answers end.
--- Assumes nothing.
 use Prim.Native.Nat.{ℕ, _/_, _≤_, _<_}
 use mathlib.Core.Path.{_≡_, refl, sym, ap, _∙_}
 use mathlib.Core.Bool.{Bool, true, false}

@@ -1,6 +1,5 @@
 -- The context with every type is held by its bytes, and by what a writer of it writes. What is said of the second buffer comes from
 -- demand 3, in either direction.
--- Assumes nothing.
 use Prim.Native.Nat.{ℕ, zero, suc, _+_, _<_}
 use mathlib.Core.Path.{_≡_, refl, sym, ap, _∙_}
 use mathlib.Core.List.{List, [], _∷_, _++_}

@@ -1,5 +1,4 @@
 -- What was spelled is read back.
--- Assumes nothing.
 use Prim.Native.Nat.{ℕ, zero, suc, _+_, _-_, _*_, _/_, _%_, _^_, _≤_, _<_}
 use Prim.Native.Char.{code}
 use mathlib.Core.Path.{_≡_, refl, sym, ap, _∙_}
@@ -9,9 +8,9 @@ use native.Mathlib.Omega.{arith}
 use native.Mathlib.Nat.{div-lt-iff-lt-mul, pow-suc}
 use lib.Dec.{leb, ltb, eqb}
 use borrow.Author.Tests.{ltb-true, ltb-false, lt-ltb, le-ltb, leb-false, eqb-false, eq-eqb, ne-eqb}
-use Rattle.key_value_text.specs.Lines.{Value, Value.numbers, Value.text, Value.hex, Value.absent, Line, line, keyBytes, valueBytes, lineBytes}
-use Rattle.text_output.specs.Spelling.{ascii, pick, each, digits, decimal, after, joined, hexDigit, hexPair, isEscaped, spelled}
-use Rattle.key_value_text.specs.ReadingBack.{shifted, numberFrom, numberIn, numbersFrom, numbersIn, hexValue, bytesIn, Place.atByte, Place.atFirst, Place.atSecond, textFrom, textIn, before, cut, All, Short, Byte, Differs, Separated, ReadsBack, largest, EndsAtNewline, ReadsBackWidest}
+use Rattle.key_value_text.specs.Lines.{Value, Value.numbers, Value.text, Value.hex, Value.absent, Line, line, valueBytes, lineBytes}
+use Rattle.text_output.specs.Spelling.{ascii, each, digits, decimal, after, joined, hexDigit, hexPair, isEscaped, spelled}
+use Rattle.key_value_text.specs.ReadingBack.{shifted, numberFrom, numberIn, numbersFrom, numbersIn, hexValue, bytesIn, textFrom, textIn, before, cut, All, Short, Byte, Differs, Separated, ReadsBack, largest, EndsAtNewline, ReadsBackWidest}
 use Rattle.text_output.proofs.Digits.{one-digit, more-digits, escaped-byte, plain-byte}
 
 -- ---- lists of which all elements meet a condition

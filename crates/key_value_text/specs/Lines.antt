@@ -1,5 +1,5 @@
 -- key=value lines: what a line holds, and its bytes. Document 01: "prints key=value lines".
--- Assumes nothing.
+-- A reader has to believe this file.
 use Prim.Native.Nat.{ℕ}
 use Prim.Native.Char.{code}
 use mathlib.Core.List.{List, [], _∷_, _++_}

@@ -1,6 +1,6 @@
 -- What spelled bytes say, and the statement that it is what was spelled: where its form and separator are known, a spelling stands for one
 -- value, and the first line of a text has one key and one spelled value. Proved in proofs/ReadingBack.antt: `reads-back`.
--- Assumes nothing.
+-- A reader has to believe this file.
 use Prim.Native.Nat.{ℕ, _+_, _-_, _*_, _^_, _<_}
 use Prim.Native.Char.{code}
 use mathlib.Core.Path.{_≡_}

@@ -1,5 +1,4 @@
 -- The examples hold, by computing the definitions.
--- Assumes nothing.
 use mathlib.Core.Path.{refl}
 use Rattle.words.specs.Words.{numberAt}
 use Rattle.byte_layout.specs.Stored.{bytesAt, textAt}

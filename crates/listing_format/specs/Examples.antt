@@ -1,6 +1,6 @@
 -- Statement: the listing of document 01, and of a context with every type, whose silent bytes are not zero, of one with absent members, of
 -- a refused buffer, and how numbers and texts are spelled at their boundaries. Proved in proofs/Examples.antt: `examples`.
--- Assumes nothing.
+-- A reader has to believe this file.
 use Prim.Native.Nat.{ℕ}
 use mathlib.Core.Path.{_≡_}
 use mathlib.Core.List.{List, [], _∷_, _++_}

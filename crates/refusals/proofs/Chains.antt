@@ -1,5 +1,4 @@
 -- Laws of chains of tests: what a chain that answers 0 says, link by link.
--- Assumes nothing.
 use Prim.Native.Nat.{ℕ, zero, suc}
 use mathlib.Core.Path.{_≡_, refl}
 use mathlib.Core.Bool.{Bool, true, false, _&&_}

@@ -1,5 +1,5 @@
 -- Document 01's number and value for each case of an answer, and the two definitions that make every refusal.
--- Assumes nothing.
+-- A reader has to believe this file.
 use Prim.Native.Nat.{ℕ, zero, suc}
 use Rattle.refusals.specs.declared.Refusal.{Refusal}
 use Rattle.refusals.specs.declared.Answer.{Answer}

@@ -1,5 +1,5 @@
 -- Document 01, "Numbers a call can give back", and what a chain of tests gives back.
--- Assumes nothing.
+-- A reader has to believe this file.
 use Prim.Native.Nat.{ℕ, zero, suc}
 use mathlib.Core.Bool.{Bool, true, false}
 

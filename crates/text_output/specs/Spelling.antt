@@ -1,5 +1,5 @@
 -- How numbers, texts and raw bytes are spelled in a key=value line.
--- Assumes nothing.
+-- A reader has to believe this file.
 use Prim.Native.Nat.{ℕ, zero, suc, _+_, _-_, _/_, _%_}
 use Prim.Native.String.{String, charAt, len}
 use Prim.Native.Char.{code}

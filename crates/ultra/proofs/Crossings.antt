@@ -1,5 +1,4 @@
 -- An answer and the lent bytes that a call left, crossed together.
--- Assumes nothing.
 use Prim.Native.Nat.{ℕ}
 use mathlib.Core.Path.{_≡_, ap, _∙_}
 use mathlib.Core.List.{List}

@@ -1,5 +1,4 @@
 -- The examples hold: by computation.
--- Assumes nothing.
 use mathlib.Core.Path.{refl}
 use Rattle.words.specs.Words.{numberAt, numbersAt, numbersBytes}
 use Rattle.byte_layout.specs.Stored.{textAt, bytesAt}

@@ -1,6 +1,6 @@
 -- How answers cross toward C ("cross" is document 01's word): "Toward C an answer is the single number (refusal number × 2^32) + value,
 -- where the value is the offset, used length, entry count or attribute start".
--- Assumes nothing.
+-- A reader has to believe this file.
 use Prim.Native.Nat.{ℕ, _+_, _*_}
 use mathlib.Core.List.{List}
 use Rattle.refusals.specs.Answers.{numberOf, valueOf}

@@ -1,6 +1,6 @@
 -- Statement: what crosses on document 01's listing (its 480 bytes, written by hand), on the head H alone, and at the boundaries of the
 -- lengths that are given. Proved in proofs/Examples.antt: `examples`.
--- Assumes nothing.
+-- A reader has to believe this file.
 use Prim.Native.Nat.{ℕ}
 use mathlib.Core.Path.{_≡_}
 use mathlib.Core.Bool.{true, false}

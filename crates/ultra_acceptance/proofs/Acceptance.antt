@@ -1,6 +1,5 @@
 -- Proofs of the statements in specs/Acceptance.antt: the one context that a buffer can hold is the one that is decoded from it; it
 -- meets the rules just where every test passes.
--- Assumes nothing.
 use Prim.Native.Nat.{ℕ, zero, suc, _≤_, _<_}
 use mathlib.Core.Path.{_≡_, refl, sym, ap, _∙_, subst}
 use mathlib.Core.List.{List}

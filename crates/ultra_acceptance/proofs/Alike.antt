@@ -1,6 +1,5 @@
 -- The law after the statements in specs/Unread.antt: two buffers that are equal at the bytes that are not silent, up to the first
 -- refused attribute, are read alike.
--- Assumes nothing.
 use Prim.Native.Nat.{ℕ, zero, suc, _+_, _≤_, _<_}
 use mathlib.Core.Path.{_≡_, refl, sym, ap, _∙_}
 use mathlib.Core.Bool.{Bool, true, false}

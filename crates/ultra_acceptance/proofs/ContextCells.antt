@@ -1,6 +1,5 @@
 -- Where the bytes of an attribute lie in the layout of the context that is decoded from a buffer: from its start in the buffer on, if the
 -- attributes before it break no rule. And that the head but for its reserved u16, and each attribute's type and size, are not silent.
--- Assumes nothing.
 use Prim.Native.Nat.{ℕ, zero, suc, _+_, _<_}
 use mathlib.Core.Path.{_≡_, refl, sym, ap, _∙_}
 use mathlib.Core.List.{List, [], _∷_, _++_}

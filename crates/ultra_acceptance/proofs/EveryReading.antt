@@ -1,6 +1,5 @@
 -- Proofs of the statements in specs/EveryReading.antt, from the statements that they follow from, as parameters: no lemma of their proofs
 -- is cited.
--- Assumes nothing.
 use Prim.Native.Nat.{ℕ, zero, suc, _+_, _≤_, _<_}
 use mathlib.Core.Path.{_≡_, refl, sym, ap, _∙_, subst}
 use mathlib.Core.List.{List, _++_}

@@ -1,5 +1,4 @@
 -- Laws of the least number that breaks: a chain of tests that are tried in the order of their numbers answers it, or 0 where none breaks.
--- Assumes nothing.
 use Prim.Native.Nat.{ℕ, zero, suc, _≤_, _<_}
 use mathlib.Core.Path.{_≡_, refl, sym, _∙_}
 use mathlib.Core.Bool.{Bool, true, false, true≢false}

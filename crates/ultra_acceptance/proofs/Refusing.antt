@@ -1,5 +1,4 @@
 -- Proofs of the statements in specs/Refusing.antt: a buffer that is to be refused is refused so, and one that is not is accepted.
--- Assumes nothing.
 use Prim.Native.Nat.{ℕ, zero, suc, _-_, _≤_}
 use mathlib.Core.Path.{_≡_, refl, sym, ap, _∙_}
 use mathlib.Core.List.{List}

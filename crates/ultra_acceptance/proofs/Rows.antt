@@ -1,6 +1,5 @@
 -- The rows of document 01's table: reading's test for a number fails where the number's condition holds (on-..), and only there (is-.., or
 -- within the chain). So each chain of tests answers the least number whose condition holds.
--- Assumes nothing.
 use Prim.Native.Nat.{ℕ, zero, suc, _+_, _-_, _%_, _≤_, _<_}
 use mathlib.Core.Path.{_≡_, refl, sym, ap, _∙_}
 use mathlib.Core.Bool.{Bool, true, false, not, _&&_, _||_, or-true}

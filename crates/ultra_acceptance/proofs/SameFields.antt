@@ -1,6 +1,5 @@
 -- Two buffers that are equal at the bytes of some fields that are not silent hold the same values there. Only which cells are silent is
 -- used, not what the others say, so that the buffers' elements need not be bytes.
--- Assumes nothing.
 use Prim.Native.Nat.{ℕ, zero, suc, _+_, _/_, _<_}
 use mathlib.Core.Path.{_≡_, refl, sym, _∙_}
 use mathlib.Core.List.{List, [], _∷_, _++_}

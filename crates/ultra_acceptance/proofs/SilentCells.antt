@@ -1,5 +1,4 @@
 -- The bytes that document 01 calls silent, by its digits, are silent in the layout of what is decoded.
--- Assumes nothing.
 use Prim.Native.Nat.{ℕ, zero, suc, _+_, _-_, _<_}
 use mathlib.Core.Path.{_≡_, refl, _∙_}
 use mathlib.Core.List.{List, [], _∷_, _++_}
@@ -9,7 +8,7 @@ use lib.ListN.{length, getD, take, drop}
 use lib.Seq.{getD-append-add}
 use borrow.Author.Tests.{le-leb}
 use Rattle.byte_layout.specs.Fields.{Cell, Field, silence, textCells, fieldCells, fieldWidth, cells, width, SilentAt}
-use Rattle.byte_layout.specs.Fields.{Cell.byte, Cell.silent, Field.text, Field.padding}
+use Rattle.byte_layout.specs.Fields.{Cell.silent, Field.text, Field.padding}
 use Rattle.byte_layout.specs.Stored.{upToZero, textAt}
 use Rattle.byte_layout.proofs.FieldLaws.{length-field}
 use Rattle.ultra_format.specs.Contexts.{Body}

@@ -1,6 +1,5 @@
 -- Proofs of the statements in specs/Steps.antt: a step that is to be refused, to end or to hand back an attribute does so, and every step
 -- is one of the three.
--- Assumes nothing.
 use Prim.Native.Nat.{ℕ, zero, suc, _+_, _%_, _≤_, _<_}
 use mathlib.Core.Path.{_≡_, refl, sym, ap, ap₂, _∙_}
 use mathlib.Core.Bool.{Bool, true, false, _&&_}

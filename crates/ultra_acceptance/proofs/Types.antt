@@ -1,5 +1,4 @@
 -- The tests 9 to 11 of every attribute pass just where the types meet the rules: first, second, once, together.
--- Assumes nothing.
 use Prim.Native.Nat.{ℕ, zero, suc, _<_}
 use mathlib.Core.Path.{_≡_, refl, sym, ap, _∙_}
 use mathlib.Core.Bool.{Bool, true, false, not, _&&_, _||_}

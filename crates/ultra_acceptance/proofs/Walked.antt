@@ -1,5 +1,4 @@
 -- What it says that reading answers a used length: the head and every attribute pass their tests. And back.
--- Assumes nothing.
 use Prim.Native.Nat.{ℕ, zero, suc, _+_, _≤_, _<_}
 use mathlib.Core.Path.{_≡_, sym, ap, _∙_, subst}
 use mathlib.Core.Bool.{true}

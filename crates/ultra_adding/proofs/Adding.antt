@@ -1,5 +1,4 @@
 -- Laws of adding, for whatever is given: all that an add has to show of itself is that it raised the count for what it is given.
--- Assumes nothing.
 use Prim.Native.Nat.{ℕ, _+_, _-_, _≤_}
 use mathlib.Core.Path.{_≡_, refl, sym, ap, _∙_}
 use mathlib.Core.Bool.{Bool, true}

@@ -1,5 +1,4 @@
 -- What it says that members given break no rule: how long their texts and GUIDs are.
--- Assumes nothing.
 use Prim.Native.Nat.{ℕ, _<_}
 use mathlib.Core.Path.{_≡_}
 use mathlib.Core.Bool.{true, _&&_}

@@ -1,6 +1,5 @@
 -- Laws of one more attribute at the end: each answer from the facts that lead to it, and what it says that reading accepted the buffer,
 -- that an offset was answered, and that the count was raised.
--- Assumes nothing.
 use Prim.Native.Nat.{ℕ, _+_, _-_, _≤_, _<_}
 use mathlib.Core.Path.{_≡_, refl, sym, ap, _∙_}
 use mathlib.Core.List.{List}

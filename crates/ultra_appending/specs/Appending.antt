@@ -1,5 +1,5 @@
 -- One more attribute at the end of a context: what refuses it, the offset where it goes, and the buffer with it counted.
--- Assumes nothing.
+-- A reader has to believe this file.
 use Prim.Native.Nat.{ℕ, _+_}
 use mathlib.Core.List.{List}
 use lib.ListN.{length}

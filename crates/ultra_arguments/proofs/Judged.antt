@@ -1,5 +1,4 @@
 -- What the five tests make is the number of the members; and the tests of a command line's and a map's form.
--- Assumes nothing.
 use Prim.Native.Nat.{ℕ, _+_, _-_, _*_, _%_}
 use mathlib.Core.Path.{_≡_, refl, ap, _∙_}
 use mathlib.Core.Bool.{Bool, true, false}

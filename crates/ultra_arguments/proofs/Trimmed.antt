@@ -1,5 +1,4 @@
 -- The text that an array gives, from its end: a zero there is dropped, and any other byte ends the text.
--- Assumes nothing.
 use Prim.Native.Nat.{ℕ, zero, suc, _-_, _≤_, _<_}
 use mathlib.Core.Path.{_≡_, refl, ap, sym, _∙_}
 use mathlib.Core.List.{List, [], _∷_, _++_}

@@ -1,6 +1,5 @@
 -- Proofs of the statements in specs/AddingRefusals.antt: the chain of tests that an add goes through answers the first number whose
 -- condition is met (`decided`), and reading goes before it.
--- Assumes nothing.
 use Prim.Native.Nat.{ℕ, _+_, _-_, _*_, _≤_, _<_}
 use mathlib.Core.Path.{_≡_, refl, sym, ap, _∙_, subst}
 use mathlib.Core.Bool.{Bool, true, false, _&&_, true≢false}

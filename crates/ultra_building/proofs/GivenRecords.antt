@@ -1,5 +1,4 @@
 -- What a record gives is what its members give one by one: its text without trailing zeros, and late members that are present.
--- Assumes nothing.
 use Prim.Native.Nat.{ℕ, _-_}
 use mathlib.Core.Path.{_≡_, refl, sym, ap}
 use mathlib.Core.Bool.{Bool, true, false, _&&_}

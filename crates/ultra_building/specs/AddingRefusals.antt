@@ -5,6 +5,7 @@
 -- `refused-add-keeps`, `adding-succeeds`, from these three `every-add` and `one-answer`, and `adding-in-digits`. Of a buffer only
 -- that its elements are bytes is assumed.
 -- Assumes nothing else.
+-- A reader has to believe this file.
 use Prim.Native.Nat.{ℕ, _+_, _-_, _≤_, _<_}
 use mathlib.Core.Path.{_≡_}
 use mathlib.Core.Bool.{Bool, true, false}

@@ -1,5 +1,5 @@
 -- What beginning answers, and what it leaves in the buffer. (Adding: ultra_adding/specs/Adding.antt.)
--- Assumes nothing.
+-- A reader has to believe this file.
 use Prim.Native.Nat.{ℕ}
 use mathlib.Core.List.{List, [], _∷_}
 use lib.Dec.{leb}

@@ -1,5 +1,4 @@
 -- Proof of the statement in specs/Opening.antt.
--- Assumes nothing.
 use Prim.Native.Nat.{ℕ, _+_}
 use mathlib.Core.Path.{_≡_, _∙_}
 use mathlib.Core.List.{List}

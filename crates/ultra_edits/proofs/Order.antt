@@ -1,5 +1,4 @@
 -- Proof of the statement in specs/Order.antt.
--- Assumes nothing.
 use mathlib.Core.Path.{sym, ap, _∙_}
 use native.Mathlib.Omega.{arith}
 use Rattle.ultra_format.specs.Contexts.{typeAt}

@@ -1,6 +1,6 @@
 -- A context attribute by attribute: its bytes open a buffer just where its head and each of its attributes lie there. It is proved in
 -- proofs/Opening.antt.
--- Assumes nothing.
+-- Serves proofs alone: no published contract or statement rests on it.
 use Prim.Native.Nat.{ℕ, _<_}
 use mathlib.Core.Path.{_≡_}
 use mathlib.Core.Logic.{_↔_}

@@ -1,6 +1,5 @@
 -- Layout and decoding agree on a body: what is decoded from a buffer lies there by the layout, and a body that lies there is what is
 -- decoded.
--- Assumes nothing.
 use Prim.Native.Nat.{ℕ, zero, suc, _+_, _-_, _*_, _/_, _≤_}
 use mathlib.Core.Path.{_≡_, refl, sym, ap, ap₂, _∙_}
 use mathlib.Core.Bool.{Bool, true, false, _&&_}

@@ -1,5 +1,4 @@
 -- The cases of specs/MemberCases.antt hold, by computing the definitions.
--- Assumes nothing.
 use Prim.Native.Nat.{ℕ}
 use mathlib.Core.Path.{_≡_, refl}
 use mathlib.Core.Bool.{Bool, true, false, not, _&&_}

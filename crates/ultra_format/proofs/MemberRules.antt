@@ -1,5 +1,4 @@
 -- Each test on members holds exactly where its sentence does.
--- Assumes nothing.
 use Prim.Native.Nat.{ℕ, zero, suc, _+_, _-_, _*_, _/_, _%_, _≤_, _<_}
 use mathlib.Core.Path.{_≡_, refl, sym, ap₂, _∙_}
 use mathlib.Core.Bool.{Bool, true, false, _&&_, _||_, true≢false}
@@ -14,7 +13,6 @@ use Rattle.ultra_format.specs.Contexts.{Member, Entry}
 use Rattle.ultra_format.specs.Contexts.{Member.present, Member.absent}
 use Rattle.address_ranges.specs.Ranges.{pageAligned, rangeFits}
 use Rattle.ultra_format.specs.Members.{every, presentIf, sizeSuits, nonzero, entryTyped, kernelValues, moduleValues, bppSuits, framebufferValues, values, ascii, asciiText, pathText, texts, entryFits, ranges}
-use Rattle.ultra_format.specs.MapOrder.{entryIn}
 use Rattle.ultra_format.specs.MemberRules.{Multiple, PresentFrom, AsciiWithin, PathWithin, Ends, MemberRules}
 use Rattle.refusals.proofs.Chains.{both-hold}
 

@@ -1,11 +1,10 @@
 -- The entries that a list of bytes gives, as numbers three to an entry, are the entries in the bytes.
--- Assumes nothing.
 use Prim.Native.Nat.{ℕ, zero, suc, _+_, _*_, _/_}
 use mathlib.Core.Path.{_≡_, refl, ap, _∙_}
 use mathlib.Core.List.{List, [], _∷_}
 use native.Mathlib.Omega.{arith}
 use lib.ListN.{length}
-use Rattle.words.specs.Words.{numbersAt, numbersIn}
+use Rattle.words.specs.Words.{numbersAt}
 use Rattle.ultra_format.specs.Contexts.{Entry, Body.memoryMap}
 use Rattle.ultra_format.specs.Decoding.{entryAt, entriesAt}
 use Rattle.ultra_format.specs.Plain.{writtenSize}

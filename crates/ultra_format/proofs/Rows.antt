@@ -1,5 +1,4 @@
 -- Attributes in a row: two rows side by side, and a row that lies in a buffer, attribute by attribute.
--- Assumes nothing.
 use Prim.Native.Nat.{ℕ, zero, suc, _+_, _<_}
 use mathlib.Core.Path.{_≡_, refl, sym, ap, _∙_}
 use mathlib.Core.List.{List, [], _∷_, _++_, append-assoc}

@@ -1,6 +1,5 @@
 -- The rules can be met, those of every body among them: three contexts, that of document 01's listing, one with every type and one with
 -- the types that are added, meet them and open their bytes, and the first and the last are plain. And a short platform has no late member.
--- Assumes nothing.
 use Prim.Native.Nat.{ℕ, zero, suc, _%_, _≤_, _<_}
 use mathlib.Core.Path.{_≡_, refl, sym, ap, _∙_, subst}
 use mathlib.Core.Bool.{Bool, true, _&&_}

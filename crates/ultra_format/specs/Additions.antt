@@ -1,6 +1,6 @@
 -- What an add is given, and what that says before a buffer is looked at: the attribute that it is to become, and the first of 12 to 16
 -- that it breaks.
--- Assumes nothing.
+-- A reader has to believe this file.
 use Prim.Native.Nat.{ℕ, _%_}
 use mathlib.Core.Bool.{Bool, true, _&&_}
 use mathlib.Core.List.{List, [], _∷_}

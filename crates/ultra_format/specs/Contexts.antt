@@ -1,6 +1,6 @@
 -- A context as a list: the version, and each attribute's size and members. Document 01: "The list carries the version and each
 -- attribute's type, size and members, but no silent byte".
--- Assumes nothing.
+-- A reader has to believe this file.
 use Prim.Native.Nat.{ℕ, _+_}
 use mathlib.Core.List.{List, [], _∷_}
 use lib.ListN.{length, getD, take}

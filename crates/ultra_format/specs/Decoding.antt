@@ -1,6 +1,6 @@
 -- What the bytes of a buffer say, whether or not they meet the rules: the one body that an attribute's bytes can hold, and the one
 -- context. Total, and judges nothing.
--- Assumes nothing.
+-- A reader has to believe this file.
 use Prim.Native.Nat.{ℕ, zero, suc, _+_, _-_, _/_}
 use mathlib.Core.Bool.{Bool, true, false}
 use mathlib.Core.List.{List, [], _∷_}

@@ -2,7 +2,7 @@
 -- bytes, whose GUIDs, which the listing does not show, are zero; one with every type of attribute, in whose bytes no silent byte is
 -- zero; and one with the six types that are added, as they are written, in 640 bytes. proofs/Witness.antt shows that all meet the rules
 -- and open their bytes, and that the first and the last are what a writer writes, and plain.
--- Assumes nothing.
+-- A reader has to believe this file.
 use Prim.Native.Nat.{ℕ}
 use mathlib.Core.Path.{_≡_}
 use mathlib.Core.List.{List, [], _∷_, _++_}

@@ -1,7 +1,7 @@
 -- The layout of a context as bytes: document 01, "The head and the attributes". What it means that a list's bytes open a buffer, which
 -- bytes are silent, what is plain and what a writer writes all come from this one definition. Reading decodes by the table's offsets
 -- (Decoding); `says-decoded`, in proofs/Decoded.antt, proves that the two agree.
--- Assumes nothing.
+-- A reader has to believe this file.
 use Prim.Native.Nat.{ℕ, _+_, _-_, min}
 use mathlib.Core.List.{List, [], _∷_, _++_}
 use lib.ListN.{length}

@@ -1,6 +1,6 @@
 -- Statement: the order of a map's entries by index, beside the test on neighbours that reading and adding share (Members). Proved in
 -- proofs/MapOrder.antt: `map-order`.
--- Assumes nothing.
+-- A reader has to believe this file.
 use Prim.Native.Nat.{ℕ, suc, _+_, _≤_, _<_}
 use mathlib.Core.Path.{_≡_}
 use mathlib.Core.Logic.{_↔_}

@@ -1,7 +1,7 @@
 -- Document 01's rules in digits: values just inside and just outside each, with the number that 01 gives for them. A rule on members or
 -- places is one definition, which reading, adding and the rules of the format share: no theorem that compares these would notice a wrong
 -- one. Numbers are digits here and not names, so that a wrong name is noticed too. The theorems are in proofs/MemberCases.antt.
--- Assumes nothing.
+-- A reader has to believe this file.
 use Prim.Native.Nat.{ℕ}
 use mathlib.Core.Path.{_≡_}
 use mathlib.Core.Bool.{Bool, true, false}

@@ -1,7 +1,7 @@
 -- Statement: each test on members (Members) holds exactly where document 01's sentence does, of all values and in digits; and so do the
 -- tests on what is given to be added and on types (Places). The cases in MemberCases show both sides of each. The map's order is MapOrder. Proved in
 -- proofs/MemberRules.antt: `member-rules`.
--- Assumes nothing.
+-- A reader has to believe this file.
 use Prim.Native.Nat.{ℕ, _+_, _-_, _*_, _≤_, _<_}
 use mathlib.Core.Path.{_≡_}
 use mathlib.Core.Bool.{true}

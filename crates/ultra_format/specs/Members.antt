@@ -1,6 +1,6 @@
 -- The rules on one attribute: its size suits the table, and its members' values, texts, ranges and order. Each is a test on the
 -- attribute's size and members alone, so that reading and adding share it.
--- Assumes nothing.
+-- A reader has to believe this file.
 use Prim.Native.Nat.{ℕ, _+_, _-_, _*_}
 use mathlib.Core.Bool.{Bool, true, false, not, _&&_, _||_}
 use mathlib.Core.List.{List, [], _∷_}

@@ -1,5 +1,5 @@
 -- Which type may stand where: refusals 9 to 11, as tests on a type and the types before it, the nearest first.
--- Assumes nothing.
+-- A reader has to believe this file.
 use Prim.Native.Nat.{ℕ, zero, suc}
 use mathlib.Core.Bool.{Bool, false, not, _&&_, _||_}
 use mathlib.Core.List.{List, [], _∷_}

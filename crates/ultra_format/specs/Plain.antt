@@ -1,5 +1,5 @@
 -- Document 01, "Plain" (its own term): a context as this library writes one.
--- Assumes nothing.
+-- A reader has to believe this file.
 use Prim.Native.Nat.{ℕ, _+_, _*_, _/_, _<_}
 use mathlib.Core.Path.{_≡_}
 use mathlib.Core.List.{List}

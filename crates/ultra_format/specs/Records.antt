@@ -1,6 +1,6 @@
 -- The records that calls are given and hand back, of the members that a list carries. "bytes of a fixed text from its closing zero on
 -- are given as zero"; an absent platform member "is marked absent, not zero".
--- Assumes nothing.
+-- A reader has to believe this file.
 use Prim.Native.Nat.{ℕ, zero, suc}
 use mathlib.Core.List.{List, [], _∷_}
 use Rattle.byte_layout.specs.Fields.{padded}

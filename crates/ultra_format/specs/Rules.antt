@@ -1,5 +1,5 @@
 -- Document 01, "Rules of the format", as conditions on a context and a room. Nothing here reads a buffer.
--- Assumes nothing.
+-- A reader has to believe this file.
 use Prim.Native.Nat.{ℕ, _%_, _≤_, _<_}
 use mathlib.Core.Path.{_≡_}
 use mathlib.Core.Bool.{true}

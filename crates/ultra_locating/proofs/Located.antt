@@ -1,5 +1,4 @@
 -- Laws of an accepted buffer: its head and attributes lie within it, and their sizes suit the table.
--- Assumes nothing.
 use Prim.Native.Nat.{ℕ, _+_, _≤_, _<_}
 use mathlib.Core.Path.{_≡_, sym, _∙_}
 use mathlib.Core.Bool.{true}

@@ -1,5 +1,4 @@
 -- Laws of searching: the search from attribute i of n on, as a loop meets it, and what it finds.
--- Assumes nothing.
 use Prim.Native.Nat.{ℕ, zero, suc, _+_, _-_, _≤_, _<_}
 use mathlib.Core.Path.{_≡_, refl, sym, ap, _∙_}
 use mathlib.Core.Bool.{Bool, true, false}

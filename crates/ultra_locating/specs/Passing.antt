@@ -1,5 +1,5 @@
 -- "Each reads first and passes its refusal on".
--- Assumes nothing.
+-- A reader has to believe this file.
 use Prim.Native.Nat.{ℕ}
 use mathlib.Core.Path.{_≡_}
 use mathlib.Core.List.{List}

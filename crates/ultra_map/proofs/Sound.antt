@@ -1,5 +1,4 @@
 -- Laws of the test of a whole map: one entry at a time, and that a map that passes it breaks no rule.
--- Assumes nothing.
 use Prim.Native.Nat.{ℕ, zero, suc, _+_, _-_, _*_, _≤_, _<_}
 use mathlib.Core.Path.{_≡_, refl, sym, _∙_}
 use mathlib.Core.Bool.{Bool, true, false, _&&_}

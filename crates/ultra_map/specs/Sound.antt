@@ -1,5 +1,5 @@
 -- A test of a whole map in one pass.
--- Assumes nothing.
+-- Serves proofs alone: no published contract or statement rests on it.
 use Prim.Native.Nat.{ℕ, _+_}
 use mathlib.Core.Bool.{Bool, true, _&&_}
 use mathlib.Core.List.{List, [], _∷_}

@@ -1,5 +1,4 @@
 -- Laws of the map question: of the numbers of a map, of where they are, and of what is copied from there.
--- Assumes nothing.
 use Prim.Native.Nat.{ℕ, zero, suc, _+_, _*_, _≤_, _<_}
 use mathlib.Core.Path.{_≡_, refl, sym, ap, subst}
 use mathlib.Core.Bool.{Bool, true, false}

@@ -1,6 +1,6 @@
 -- "The map copied out as 64-bit numbers; 19 then 18, both with the used length; elements past the last triple stay. Success answers the
 -- number of entries."
--- Assumes nothing.
+-- A reader has to believe this file.
 use Prim.Native.Nat.{ℕ, _+_, _-_, _*_, _/_}
 use mathlib.Core.List.{List, [], _∷_}
 use lib.ListN.{length}

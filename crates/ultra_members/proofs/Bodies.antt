@@ -1,5 +1,4 @@
 -- Laws of single bodies: when the size of a decoded one suits the table, and which body a type decodes to.
--- Assumes nothing.
 use Prim.Native.Nat.{ℕ, _+_, _-_, _*_, _/_, _%_, _≤_}
 use mathlib.Core.Path.{_≡_, refl}
 use mathlib.Core.Bool.{Bool, true, false, and-true}

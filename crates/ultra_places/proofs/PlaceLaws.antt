@@ -1,5 +1,4 @@
 -- Laws of the tests 9 to 11: each answer from the facts that lead to it; of the types before an attribute, and of a search among them.
--- Assumes nothing.
 use Prim.Native.Nat.{ℕ, zero, suc, _+_, _≤_, _<_}
 use mathlib.Core.Path.{_≡_, refl, sym, ap, subst, _∙_}
 use mathlib.Core.Bool.{Bool, true, false, not, _||_, and-false, or-false}

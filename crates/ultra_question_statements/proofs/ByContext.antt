@@ -1,5 +1,4 @@
 -- Each question answers by the context that the buffer holds: reading accepts the buffer, and what is decoded from it is that context.
--- Assumes nothing.
 use Prim.Native.Nat.{ℕ}
 use mathlib.Core.Path.{_≡_, refl, sym, ap, _∙_, subst}
 use mathlib.Core.Bool.{Bool, true, false}

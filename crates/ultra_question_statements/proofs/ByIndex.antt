@@ -1,6 +1,5 @@
 -- The questions that look for an attribute answer by its index: they answer by the context, in which the first attribute that meets a
 -- test is the one with the least index.
--- Assumes nothing.
 use Prim.Native.Nat.{ℕ, _+_, _*_, _/_, _≤_, _<_}
 use mathlib.Core.Path.{_≡_, refl, sym, ap, _∙_}
 use mathlib.Core.Bool.{Bool, true, false}

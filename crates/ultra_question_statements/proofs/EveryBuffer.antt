@@ -1,5 +1,4 @@
 -- What the questions answer of every buffer, from the statements on one that holds a list and on one that is refused: there is no other.
--- Assumes nothing.
 use Prim.Native.Nat.{ℕ, _+_, _*_, _/_, _≤_, _<_}
 use mathlib.Core.Path.{_≡_, refl, sym, ap, _∙_, subst}
 use mathlib.Core.Bool.{Bool, true, false}

@@ -1,5 +1,4 @@
 -- What a search finds, by index: nothing where no attribute of the list meets the test, else the one with the least index that meets it.
--- Assumes nothing.
 use Prim.Native.Nat.{ℕ, zero, suc, _+_, _<_}
 use mathlib.Core.Path.{_≡_, refl, sym, ap, _∙_}
 use mathlib.Core.Bool.{Bool, true, false}

@@ -1,5 +1,4 @@
 -- Copying the map out into bytes copies the entries' bytes, or changes none.
--- Assumes nothing.
 use Prim.Native.Nat.{ℕ, _*_, _/_}
 use mathlib.Core.Path.{_≡_, sym, ap, ap₂, _∙_}
 use mathlib.Core.List.{List}

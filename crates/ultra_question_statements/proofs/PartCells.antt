@@ -1,5 +1,4 @@
 -- The bytes of a part: a map's entries and a command line's text have no silent cell, so the buffer that they open has their bytes.
--- Assumes nothing.
 use Prim.Native.Nat.{ℕ, zero, suc, _+_, _-_, _*_, _≤_, _<_}
 use mathlib.Core.Path.{_≡_, refl, ap, ap₂, _∙_}
 use mathlib.Core.Bool.{true}

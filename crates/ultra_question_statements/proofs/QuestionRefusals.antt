@@ -1,5 +1,4 @@
 -- Proofs of the statements in specs/QuestionRefusals.antt: the questions answer by the context, whose one attribute of type 3 is its map.
--- Assumes nothing.
 use Prim.Native.Nat.{ℕ, _*_, _/_, _<_}
 use mathlib.Core.Path.{_≡_, refl, sym, ap, _∙_}
 use mathlib.Core.Bool.{Bool, true, false}

@@ -1,5 +1,4 @@
 -- What the statements on the questions say of the context with every type.
--- Assumes nothing.
 use Prim.Native.Nat.{ℕ}
 use mathlib.Core.Path.{_≡_, refl, ap}
 use mathlib.Core.List.{List, _∷_}

@@ -1,6 +1,6 @@
 -- Statement: each question answers by the context that the buffer holds, and the slice that is handed back as the command line has its
 -- text. Proved in proofs/ByContext.antt: `questions-by-context`.
--- Assumes nothing.
+-- A reader has to believe this file.
 use Prim.Native.Nat.{ℕ}
 use mathlib.Core.Path.{_≡_}
 use mathlib.Core.List.{List}

@@ -1,7 +1,7 @@
 -- Statement: what the questions that look for an attribute answer of a buffer that holds a context, by the index of that attribute and
 -- with no word on how it is looked for. (Where the map question refuses: QuestionRefusals.) Proved in proofs/ByIndex.antt:
 -- `questions-by-index`.
--- Assumes nothing.
+-- A reader has to believe this file.
 use Prim.Native.Nat.{ℕ, _+_, _*_, _/_, _≤_, _<_}
 use mathlib.Core.Path.{_≡_}
 use mathlib.Core.Logic.{_↔_, _⊎_}

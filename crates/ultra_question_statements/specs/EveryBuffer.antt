@@ -1,7 +1,7 @@
 -- Statement: what the questions answer of every buffer of bytes, whatever it holds: exactly when each refuses, and of what list it answers
 -- where it does not. Reading is the call `read`. Proved in proofs/EveryBuffer.antt, `every-buffer`, from the statements of
 -- QuestionRefusals, ByIndex, ByContext and MapAsBytes alone: one that asked for more would not give it.
--- Assumes nothing.
+-- A reader has to believe this file.
 use Prim.Native.Nat.{ℕ, _+_, _/_, _<_}
 use mathlib.Core.Path.{_≡_}
 use mathlib.Core.Logic.{_↔_, _⊎_}

@@ -2,6 +2,7 @@
 -- map's entries, as they stand in the buffer, to the front, and leaves what is after them. Proved in proofs/MapAsBytes.antt:
 -- `map-as-bytes`. Of the buffer and the output only that their elements are bytes is assumed.
 -- Assumes nothing else.
+-- A reader has to believe this file.
 use Prim.Native.Nat.{ℕ, _+_, _*_}
 use mathlib.Core.Path.{_≡_}
 use mathlib.Core.List.{List}

@@ -2,7 +2,7 @@
 -- document 01's table, and no other; where reading refuses the buffer, they pass that refusal on (under which condition reading gives
 -- it: specs/Refusing.antt of crate ultra_acceptance). They speak of whole refusals, by 01's number and value of an answer: whatever
 -- else a refusal carries is settled too. Proved in proofs/QuestionRefusals.antt: `questions-refuse`, `refusals-pass-on`.
--- Assumes nothing.
+-- A reader has to believe this file.
 use Prim.Native.Nat.{ℕ, _*_, _/_, _≤_, _<_}
 use mathlib.Core.Path.{_≡_}
 use mathlib.Core.Logic.{_↔_, _⊎_}

@@ -1,6 +1,6 @@
 -- The statements on the questions do not speak of nothing: what they say, in digits, of a buffer that holds a context with every type of
 -- attribute (Examples, of crate ultra_format), on both sides of each limit. Proved in proofs/Witness.antt, `witnessed`, from them.
--- Assumes nothing.
+-- A reader has to believe this file.
 use Prim.Native.Nat.{ℕ, _<_}
 use mathlib.Core.Path.{_≡_}
 use mathlib.Core.List.{List, _∷_}

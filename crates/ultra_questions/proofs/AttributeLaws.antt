@@ -1,5 +1,4 @@
 -- Laws of the attribute question: each answer from the facts that lead to it, and what a start says.
--- Assumes nothing.
 use Prim.Native.Nat.{ℕ, _+_, _≤_, _<_}
 use mathlib.Core.Path.{_≡_, refl, sym, ap, _∙_}
 use mathlib.Core.Bool.{Bool, true, false}

@@ -1,5 +1,4 @@
 -- Laws of a decoded body, by its type: its part, and whether it is a module that holds an address.
--- Assumes nothing.
 use Prim.Native.Nat.{ℕ, _+_, _-_, _*_, _/_, _≤_}
 use mathlib.Core.Path.{_≡_, refl, sym, ap, _∙_}
 use mathlib.Core.Bool.{true, false}

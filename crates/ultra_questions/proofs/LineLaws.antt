@@ -1,5 +1,4 @@
 -- Laws of the command line question: each answer from the facts that lead to it, and that the part lies within the buffer.
--- Assumes nothing.
 use Prim.Native.Nat.{ℕ, _+_, _≤_}
 use mathlib.Core.Path.{_≡_, refl}
 use mathlib.Core.Bool.{Bool, true, false}

@@ -1,5 +1,4 @@
 -- Laws of the module question: the refusal is passed on, or the search is answered.
--- Assumes nothing.
 use Prim.Native.Nat.{ℕ}
 use mathlib.Core.Path.{_≡_}
 use mathlib.Core.List.{List}

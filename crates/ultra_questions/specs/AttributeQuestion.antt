@@ -1,6 +1,6 @@
 -- "The attribute at an index: type, start, size and its members; bytes of a fixed text from its closing zero on are given as zero; a
 -- map or command line as its part of the buffer's entries or text, up to its zero; 3 with the used length."
--- Assumes nothing.
+-- A reader has to believe this file.
 use Prim.Native.Nat.{ℕ}
 use mathlib.Core.List.{List}
 use lib.Dec.{ltb}

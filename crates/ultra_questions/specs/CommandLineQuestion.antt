@@ -1,5 +1,5 @@
 -- "The command line is handed back as that part of the buffer, up to its zero; an empty part if there is none or the buffer is refused."
--- Assumes nothing.
+-- A reader has to believe this file.
 use Prim.Native.Nat.{ℕ}
 use mathlib.Core.List.{List, []}
 use denote.Ref.{RefT}

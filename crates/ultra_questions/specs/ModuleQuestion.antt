@@ -1,5 +1,5 @@
 -- "Which module holds an address: the attribute start of the first module with address ≤ a < address + size, or 0."
--- Assumes nothing.
+-- A reader has to believe this file.
 use Prim.Native.Nat.{ℕ}
 use mathlib.Core.Bool.{Bool, false}
 use mathlib.Core.List.{List}

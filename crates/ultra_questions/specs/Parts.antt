@@ -1,5 +1,5 @@
 -- Parts of a lent buffer: "a map or command line as its part of the buffer's entries or text, up to its zero".
--- Assumes nothing.
+-- A reader has to believe this file.
 use Prim.Native.Nat.{ℕ, _+_, _*_, _≤_}
 use mathlib.Core.Path.{_≡_}
 use mathlib.Core.List.{List, []}

@@ -1,5 +1,4 @@
 -- Laws of reading: one attribute's answer, a type above those before, the answer from an attribute on, and the whole answer by the head.
--- Assumes nothing.
 use Prim.Native.Nat.{ℕ, suc, _+_, _-_, _≤_, _<_, max}
 use mathlib.Core.Path.{_≡_, refl, sym, _∙_}
 use mathlib.Core.Bool.{true, false}

@@ -1,6 +1,5 @@
 -- The cases that document 01 marks * hold, and the context of its listing and one with every type are accepted, by computing the
 -- definitions.
--- Assumes nothing.
 use mathlib.Core.Path.{_≡_, refl}
 use Rattle.words.specs.Words.{numberAt}
 use Rattle.byte_layout.specs.Stored.{bytesAt, textAt}

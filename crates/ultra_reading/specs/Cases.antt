@@ -1,6 +1,6 @@
 -- Document 01, "Cases on both sides": the cases marked *, as one list, and the other side of their limits. The theorems are `starred` and
 -- `other-sides`, proofs/Starred.antt.
--- Assumes nothing.
+-- A reader has to believe this file.
 use Prim.Native.Nat.{ℕ}
 use mathlib.Core.Path.{_≡_}
 use mathlib.Core.List.{List, [], _∷_, _++_}

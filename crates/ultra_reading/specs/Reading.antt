@@ -1,6 +1,6 @@
 -- What reading a buffer answers: the tests of document 01's table, in its order. "In reading and adding, 1 to 4 (3 for the count)
 -- have offset 0 and come first. Then attribute by attribute, 5 to 16 in that order, each with that attribute's start".
--- Assumes nothing.
+-- A reader has to believe this file.
 use Prim.Native.Nat.{ℕ, zero, suc, _+_, _<_, max}
 use mathlib.Core.Path.{_≡_}
 use mathlib.Core.List.{List, [], _∷_}

@@ -1,5 +1,4 @@
 -- Laws of the records of a decoded body, by its type.
--- Assumes nothing.
 use Prim.Native.Nat.{ℕ}
 use mathlib.Core.Path.{_≡_, refl}
 use mathlib.Core.List.{List}

@@ -1,5 +1,4 @@
 -- A test of every element, as a loop over a list meets it: by the first of those left.
--- Assumes nothing.
 use Prim.Native.Nat.{ℕ, _+_, _<_}
 use mathlib.Core.Path.{_≡_}
 use mathlib.Core.Bool.{Bool, true, false}

@@ -1,5 +1,4 @@
 -- The number of a body from its size and from the tests of its members.
--- Assumes nothing.
 use Prim.Native.Nat.{ℕ}
 use mathlib.Core.Path.{_≡_, _∙_}
 use mathlib.Core.Bool.{Bool, true, false}

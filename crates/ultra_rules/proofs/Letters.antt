@@ -1,5 +1,4 @@
 -- Laws of the rules on texts, one byte at a time.
--- Assumes nothing.
 use Prim.Native.Nat.{ℕ, zero, suc, _+_, _-_, _≤_, _<_}
 use mathlib.Core.Path.{_≡_, refl}
 use mathlib.Core.Bool.{true, false, and-true, and-false}

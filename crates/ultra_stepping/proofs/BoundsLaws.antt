@@ -1,5 +1,4 @@
 -- Laws of the tests 5 to 8: each answer from the facts that lead to it, and what 0 says.
--- Assumes nothing.
 use Prim.Native.Nat.{ℕ, _+_, _%_, _≤_, _<_}
 use mathlib.Core.Path.{_≡_, sym}
 use mathlib.Core.List.{List}

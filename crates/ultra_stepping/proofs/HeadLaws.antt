@@ -1,5 +1,4 @@
 -- Laws of the head's tests: each answer from the facts that lead to it, and what 0 says.
--- Assumes nothing.
 use Prim.Native.Nat.{ℕ, _≤_, _<_}
 use mathlib.Core.Path.{_≡_}
 use mathlib.Core.List.{List}

@@ -1,5 +1,4 @@
 -- Laws of the walk: what is known of the attribute that it has come to, and where the search from it on finds a type.
--- Assumes nothing.
 use Prim.Native.Nat.{ℕ, zero, suc, _+_, _-_, _≤_, _<_}
 use mathlib.Core.Path.{_≡_, refl, sym}
 use mathlib.Core.List.{List}
@@ -10,7 +9,7 @@ use Rattle.words.specs.Words.{u32At}
 use Rattle.ultra_format.specs.Decoding.{start, storedType, storedSize}
 use Rattle.ultra_stepping.specs.Checks.{boundsCheck}
 use Rattle.ultra_stepping.specs.Walking.{firstOfType}
-use Rattle.ultra_stepping.proofs.BoundsLaws.{BoundsHold, bounds-hold, bounds-pass}
+use Rattle.ultra_stepping.proofs.BoundsLaws.{bounds-hold, bounds-pass}
 
 -- ---- where attributes start
 pub start-first : (b : List ℕ) → 8 ≡ start b 0

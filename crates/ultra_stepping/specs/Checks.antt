@@ -1,5 +1,5 @@
 -- The checks of the head and of an attribute's header: refusals 1 to 8 of document 01's table, in its order.
--- Assumes nothing.
+-- A reader has to believe this file.
 use Prim.Native.Nat.{ℕ, _+_, _%_}
 use mathlib.Core.Bool.{not}
 use mathlib.Core.List.{List}

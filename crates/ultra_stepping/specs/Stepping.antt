@@ -1,7 +1,7 @@
 -- What a step answers. Document 01: "A step does 1 to 4; answers the end if the index is at or past the count; gives 5 also if the
 -- offset is below 8 or no multiple of 8; then 6, 7, 8; else hands back the attribute's type, start and size together with the next
 -- cursor. Refusals 1 to 4 of a step have offset 0, the others the cursor's offset."
--- Assumes nothing.
+-- A reader has to believe this file.
 use Prim.Native.Nat.{ℕ, zero, suc, _+_, _%_}
 use mathlib.Core.Bool.{_&&_}
 use mathlib.Core.List.{List}

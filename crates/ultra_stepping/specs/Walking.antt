@@ -1,5 +1,5 @@
 -- Going from attribute to attribute where they are known to break none of 5 to 8, and where a type is found first.
--- Assumes nothing.
+-- Serves proofs alone: no published contract or statement rests on it.
 use Prim.Native.Nat.{ℕ, zero, suc, _<_}
 use mathlib.Core.Path.{_≡_}
 use mathlib.Core.List.{List}

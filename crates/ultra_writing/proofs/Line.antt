@@ -1,5 +1,4 @@
 -- The size of a command line.
--- Assumes nothing.
 use Prim.Native.Nat.{ℕ, _+_, _*_, _/_}
 use mathlib.Core.Path.{_≡_, refl}
 use mathlib.Core.List.{List}

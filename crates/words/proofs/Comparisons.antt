@@ -1,5 +1,4 @@
 -- Laws of tests: what a leaf ensures and the branch on its result say together, and when two comparisons agree.
--- Assumes nothing.
 use Prim.Native.Nat.{ℕ, _≤_, _<_}
 use mathlib.Core.Path.{_≡_, refl, sym, _∙_}
 use mathlib.Core.Bool.{Bool, true, false, not}

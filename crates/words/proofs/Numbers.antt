@@ -1,5 +1,4 @@
 -- Numbers in a list of bytes, and the bytes that they are: written again, they are the bytes that they stood in.
--- Assumes nothing.
 use Prim.Native.Nat.{ℕ, zero, suc, _+_, _*_, _/_, _%_, _≤_, _<_}
 use mathlib.Core.Path.{_≡_, refl, ap, ap₂, _∙_}
 use mathlib.Core.List.{List, _∷_, _++_}

@@ -1,5 +1,4 @@
 -- One law over the width for loads, and one for stores: a number of `j + k` bytes is one of `j` bytes and one of `k` after it.
--- Assumes nothing.
 use Prim.Native.Nat.{ℕ, zero, suc, _+_, _*_, _/_, _%_, _^_, _≤_, _<_}
 use mathlib.Core.Path.{_≡_, refl, sym, ap, ap₂, _∙_}
 use mathlib.Core.List.{List, [], _∷_, _++_, append-assoc}

@@ -1,5 +1,5 @@
 -- Numbers in a list of bytes, the least byte first. Document 01: "Numbers are little-endian."
--- Assumes nothing.
+-- A reader has to believe this file.
 use Prim.Native.Nat.{ℕ, zero, suc, _+_, _*_, _/_, _%_}
 use mathlib.Core.List.{List, [], _∷_, _++_}
 use lib.ListN.{length, getD, take, drop}

@@ -1,5 +1,4 @@
 -- `address_ranges::covers` meets its contract: the difference is compared in place of the sum.
--- Assumes nothing.
 use Prim.Native.Nat.{suc, _+_, _-_}
 use native.Mathlib.Omega.{arith}
 use borrow.Author.Tests.{le-leb, lt-leb}

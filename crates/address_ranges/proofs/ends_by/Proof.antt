@@ -1,5 +1,4 @@
 -- `address_ranges::ends_by` meets its contract: the difference is compared in place of the sum.
--- Assumes nothing.
 use Prim.Native.Nat.{_+_, _-_}
 use mathlib.Core.Path.{sym}
 use native.Mathlib.Omega.{arith}

@@ -1,5 +1,4 @@
 -- `address_ranges::fits` meets its contract: the size less one is compared with what is left up to the largest address.
--- Assumes nothing.
 use Prim.Native.Nat.{_+_, _-_}
 use mathlib.Core.Path.{sym}
 use native.Mathlib.Omega.{arith}

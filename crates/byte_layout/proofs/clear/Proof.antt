@@ -1,5 +1,4 @@
 -- `byte_layout::clear` meets its contract: after i turns the first i zeros are stored.
--- Assumes nothing.
 use Prim.Native.Nat.{_-_, _≤_}
 use mathlib.Core.Path.{_≡_, refl, sym}
 use mathlib.Core.List.{[]}

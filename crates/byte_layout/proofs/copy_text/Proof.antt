@@ -1,5 +1,4 @@
 -- `byte_layout::copy_text` meets its contract: as many bytes as the text has are the text.
--- Assumes nothing.
 use mathlib.Core.Path.{_≡_, ap, _∙_}
 use mathlib.Core.List.{List}
 use Prim.Native.Nat.{ℕ}

@@ -1,5 +1,4 @@
 -- `byte_layout::store` meets its contract: after i turns the first i bytes are stored.
--- Assumes nothing.
 use Prim.Native.Nat.{_-_, _≤_}
 use mathlib.Core.Path.{_≡_, refl}
 use native.Mathlib.Omega.{arith}

@@ -1,5 +1,4 @@
 -- `byte_layout::text_length` meets its contract. The invariant: the text is as long as what is passed and the text in the rest.
--- Assumes nothing.
 use Prim.Native.Nat.{_+_, _-_, _≤_}
 use mathlib.Core.Path.{_≡_, ap}
 use native.Mathlib.Omega.{arith}

@@ -1,5 +1,4 @@
 -- `byte_moves::move_down` meets its contract: after i turns the first i bytes are moved.
--- Assumes nothing.
 use Prim.Native.Nat.{_-_, _≤_}
 use mathlib.Core.Path.{_≡_, refl}
 use native.Mathlib.Omega.{arith}

@@ -1,5 +1,4 @@
 -- `byte_moves::move_up` meets its contract: the bytes from i on are moved.
--- Assumes nothing.
 use Prim.Native.Nat.{_+_, _-_, _≤_}
 use mathlib.Core.Path.{_≡_, refl}
 use native.Mathlib.Omega.{arith}

@@ -1,5 +1,4 @@
 -- `print` is safe: a listing that was made lies within the output.
--- Assumes nothing.
 use Prim.Native.Nat.{_≤_}
 use mathlib.Core.Path.{_≡_, sym, ap, _∙_}
 use mathlib.Core.List.{List}

@@ -1,5 +1,4 @@
 -- `ultra_appending::check` meets its contract: each return from the tests that lead there.
--- Assumes nothing.
 use Prim.Native.Nat.{ℕ, _-_, _≤_, _<_}
 use mathlib.Core.Path.{_≡_, sym, ap, _∙_}
 use native.Mathlib.Omega.{arith}

@@ -1,5 +1,4 @@
 -- `ultra_appending::offset` meets its contract: reading's refusal, the check's, or the used length.
--- Assumes nothing.
 use mathlib.Core.Path.{_≡_, sym, _∙_}
 use borrow.Author.Needs.{needs}
 use denote.Ref.{now}

@@ -1,5 +1,4 @@
 -- `ultra_building::begin` meets its contract.
--- Assumes nothing.
 use borrow.Author.Needs.{needs}
 use Rattle.ultra_building.proofs.Beginnings.{begun-short, begun-good}
 use Rattle.ultra_building.proofs.begin.Statement.{statement}

@@ -1,5 +1,4 @@
 -- `list` meets its contract.
--- Assumes nothing.
 use native.Mathlib.Omega.{arith}
 use denote.Ref.{now}
 use Rattle.ultra_listing.proofs.Written.{list-short, list-whole}

@@ -1,5 +1,4 @@
 -- `listing_length` meets its contract: no listing passes the last place that is counted.
--- Assumes nothing.
 use native.Mathlib.Omega.{arith}
 use denote.Ref.{now}
 use Rattle.key_value_text.proofs.Lengths.{text-place}

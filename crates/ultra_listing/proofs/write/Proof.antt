@@ -1,5 +1,4 @@
 -- `write` meets its contract: the lines of the context, or of the refusal.
--- Assumes nothing.
 use mathlib.Core.Path.{sym, _∙_}
 use denote.Ref.{now}
 use Rattle.key_value_text.proofs.LinePuts.{lines-put}

@@ -1,5 +1,4 @@
 -- `ultra_locating::first_of_type` meets its contract: it is the walk over all attributes.
--- Assumes nothing.
 use mathlib.Core.Path.{_≡_, ap, _∙_}
 use native.Mathlib.Omega.{arith}
 use denote.Ref.{now}

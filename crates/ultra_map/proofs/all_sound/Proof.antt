@@ -1,5 +1,4 @@
 -- `ultra_map::all_sound` meets its contract. The invariant: the test says of all entries what it says of those left.
--- Assumes nothing.
 use mathlib.Core.Path.{refl, sym, _∙_}
 use native.Mathlib.Omega.{arith}
 use borrow.Author.Needs.{needs}

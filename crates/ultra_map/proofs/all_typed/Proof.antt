@@ -1,5 +1,4 @@
 -- `ultra_map::all_typed` meets its contract. The invariant: all entries have a type if and only if those left have.
--- Assumes nothing.
 use mathlib.Core.Path.{refl, sym, _∙_}
 use native.Mathlib.Omega.{arith}
 use borrow.Author.Needs.{needs}

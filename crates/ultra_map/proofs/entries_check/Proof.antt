@@ -1,5 +1,4 @@
 -- `ultra_map::entries_check` meets its contract: each return from the rules that lead there.
--- Assumes nothing.
 use Prim.Native.Nat.{_+_, _*_}
 use mathlib.Core.Path.{_≡_, refl, sym, _∙_}
 use mathlib.Core.Bool.{true}

@@ -1,5 +1,4 @@
 -- `ultra_map::entry_fits` meets its contract.
--- Assumes nothing.
 use mathlib.Core.Path.{ap₂, _∙_}
 use borrow.Author.Needs.{needs}
 use Rattle.address_ranges.specs.Ranges.{rangeFits}

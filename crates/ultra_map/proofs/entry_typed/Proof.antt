@@ -1,5 +1,4 @@
 -- `ultra_map::entry_typed` meets its contract.
--- Assumes nothing.
 use mathlib.Core.Path.{ap}
 use borrow.Author.Needs.{needs}
 use Rattle.ultra_format.specs.Members.{nonzero}

@@ -1,5 +1,4 @@
 -- `ultra_map_question::copy_map_bytes` meets its contract.
--- Assumes nothing.
 use Prim.Native.Nat.{ℕ, _/_}
 use mathlib.Core.Path.{sym, ap, _∙_, subst}
 use mathlib.Core.List.{List}

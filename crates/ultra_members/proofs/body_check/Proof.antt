@@ -1,5 +1,4 @@
 -- `ultra_members::body_check` meets its contract: each arm's answer is that of the body that its type decodes to.
--- Assumes nothing.
 use mathlib.Core.Path.{refl, _∙_}
 use native.Mathlib.Omega.{arith}
 use borrow.Author.Needs.{needs}

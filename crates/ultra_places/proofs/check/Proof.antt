@@ -1,5 +1,4 @@
 -- `ultra_places::check` meets its contract: one law a return.
--- Assumes nothing.
 use borrow.Author.Tests.{not-true, not-false}
 use mathlib.Core.Path.{_≡_, sym, _∙_}
 use mathlib.Core.Bool.{true}

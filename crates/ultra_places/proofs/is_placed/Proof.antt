@@ -1,5 +1,4 @@
 -- `ultra_places::is_placed` meets its contract, by the index.
--- Assumes nothing.
 use mathlib.Core.Path.{sym, _∙_}
 use borrow.Author.Tests.{eq-eqb, ne-eqb}
 use Rattle.ultra_places.proofs.PlaceLaws.{placed-first, placed-second, placed-later}

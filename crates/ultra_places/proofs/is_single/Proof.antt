@@ -1,5 +1,4 @@
 -- `ultra_places::is_single` meets its contract.
--- Assumes nothing.
 use borrow.Author.Tests.{eq-eqb, ne-eqb}
 use Rattle.ultra_places.proofs.is_single.Statement.{statement}
 use Rattle.ultra_places.proofs.is_single.Tie as tie

@@ -1,12 +1,10 @@
 -- `ultra_places::last_type` meets its contract: the type of the attribute at the last index.
--- Assumes nothing.
 use Prim.Native.Nat.{ℕ, _+_, _-_}
 use mathlib.Core.Path.{_≡_, sym, ap, _∙_}
 use native.Mathlib.Omega.{arith}
 use borrow.Author.Needs.{needs}
 use lib.ListN.{length}
 use denote.Ref.{now}
-use Rattle.words.specs.Words.{u32At}
 use Rattle.ultra_format.specs.Places.{nearest}
 use Rattle.ultra_format.specs.Decoding.{typesBefore}
 use Rattle.ultra_stepping.proofs.WalkLaws.{Reached, reached}

@@ -1,5 +1,4 @@
 -- `ultra_places::occurs` meets its contract: a type occurs exactly if it is found.
--- Assumes nothing.
 use Prim.Native.Nat.{ℕ}
 use mathlib.Core.Path.{ap, _∙_}
 use mathlib.Core.Bool.{not}

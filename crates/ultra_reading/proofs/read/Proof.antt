@@ -1,5 +1,4 @@
 -- `ultra_reading::read` meets its contract: the used length with the version, or the same refusal.
--- Assumes nothing.
 use mathlib.Core.Path.{sym, ap, _∙_}
 use native.Mathlib.Omega.{arith}
 use denote.Ref.{now}

@@ -1,5 +1,4 @@
 -- `ultra_reading::used_length` meets its contract: the head refuses, or the attributes answer.
--- Assumes nothing.
 use Prim.Native.Nat.{ℕ}
 use mathlib.Core.Path.{_≡_, sym, ap, ap₂, _∙_}
 use Rattle.refusals.specs.Answers.{refusal}

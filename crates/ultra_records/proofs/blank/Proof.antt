@@ -1,5 +1,4 @@
 -- `ultra_records::blank` meets its contract.
--- Assumes nothing.
 use borrow.Author.Needs.{needs}
 use Rattle.ultra_records.proofs.blank.Statement.{statement}
 use Rattle.ultra_records.proofs.blank.Tie as tie

@@ -1,5 +1,4 @@
 -- `ultra_records::records` meets its contract: the blank records, with the one that the type decodes to in its place.
--- Assumes nothing.
 use mathlib.Core.Path.{refl, _∙_}
 use native.Mathlib.Omega.{arith}
 use Rattle.ultra_format.specs.Decoding.{decoded}

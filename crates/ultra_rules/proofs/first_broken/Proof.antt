@@ -1,5 +1,4 @@
 -- `ultra_rules::first_broken` meets its contract: each return from the tests that lead there.
--- Assumes nothing.
 use mathlib.Core.Path.{_≡_}
 use mathlib.Core.Bool.{true}
 use borrow.Author.Tests.{not-true, not-false}

@@ -1,5 +1,4 @@
 -- `header` meets its contract: the fields of an attribute's first 8 bytes.
--- Assumes nothing.
 use Rattle.byte_layout.specs.Fields.{Field.number}
 use Rattle.byte_layout.proofs.Written.{nothing, next}
 use borrow.Author.Needs.{needs}

@@ -1,5 +1,4 @@
 -- `store_padded` meets its contract: the bytes and the zeros after them are one field.
--- Assumes nothing.
 use Prim.Native.Nat.{_-_}
 use native.Mathlib.Omega.{arith}
 use lib.ListN.{length}

@@ -1,5 +1,4 @@
 -- `words::load_u16` meets its contract.
--- Assumes nothing.
 use borrow.Author.Needs.{needs}
 use Rattle.words.specs.Words.{numberAt}
 use native.Mathlib.Omega.{arith}

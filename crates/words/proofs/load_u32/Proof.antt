@@ -1,5 +1,4 @@
 -- `words::load_u32` meets its contract: the law of loads at 2 and 2 bytes.
--- Assumes nothing.
 use borrow.Author.Needs.{needs}
 use native.Mathlib.Omega.{arith}
 use denote.Ref.{now}

@@ -1,5 +1,4 @@
 -- `words::load_u64` meets its contract: the law of loads at 4 and 4 bytes.
--- Assumes nothing.
 use borrow.Author.Needs.{needs}
 use native.Mathlib.Omega.{arith}
 use denote.Ref.{now}

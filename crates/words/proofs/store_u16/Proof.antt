@@ -1,5 +1,4 @@
 -- `words::store_u16` meets its contract: two bytes set are two bytes replaced.
--- Assumes nothing.
 use borrow.Author.Needs.{needs}
 use native.Mathlib.Omega.{arith}
 use native.Mathlib.Numerals.{add-one}

@@ -1,5 +1,4 @@
 -- `cases_adds::context::begun` meets its contract: what `begin` leaves, by its own.
--- Assumes nothing.
 use Prim.Native.Nat.{ℕ}
 use mathlib.Core.Path.{ap}
 use mathlib.Core.List.{List}

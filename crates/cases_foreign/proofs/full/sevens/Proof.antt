@@ -1,5 +1,4 @@
 -- `cases_foreign::full::sevens` ends and stays within the array.
--- Assumes nothing.
 use Prim.Native.Nat.{_-_, _≤_}
 use borrow.Author.Needs.{needs}
 use Rattle.cases_foreign.proofs.full.sevens.Statement.{statement}

@@ -1,5 +1,4 @@
 -- `cases_text::print::differences` ends, stays within both and counts no more than there are.
--- Assumes nothing.
 use Prim.Native.Nat.{_-_, _≤_}
 use borrow.Author.Needs.{needs}
 use lib.ListN.{length}

@@ -1,5 +1,4 @@
 -- `cases_text::print::field` ends, stays within the bytes and counts no more zeros than bytes.
--- Assumes nothing.
 use Prim.Native.Nat.{_-_, _≤_}
 use borrow.Author.Needs.{needs}
 use lib.ListN.{length}

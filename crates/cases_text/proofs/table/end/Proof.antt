@@ -1,5 +1,4 @@
 -- `cases_text::table::end` ends, stays within the table and passes at least one byte.
--- Assumes nothing.
 use Prim.Native.Nat.{_-_, _≤_}
 use borrow.Author.Needs.{needs}
 use lib.ListN.{length}

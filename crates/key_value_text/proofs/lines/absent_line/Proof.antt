@@ -1,5 +1,4 @@
 -- `lines::absent_line` meets its contract.
--- Assumes nothing.
 use mathlib.Core.Path.{sym, _∙_}
 use Rattle.key_value_text.specs.Lines.{Value.absent, valueBytes}
 use Rattle.text_output.proofs.Puts.{puts-one}

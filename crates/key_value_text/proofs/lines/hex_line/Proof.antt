@@ -1,5 +1,4 @@
 -- `lines::hex_line` meets its contract.
--- Assumes nothing.
 use Rattle.byte_layout.specs.Stored.{bytesAt}
 use Rattle.key_value_text.specs.Lines.{Value.hex, valueBytes}
 use Rattle.key_value_text.proofs.LinePuts.{line-put}

@@ -1,5 +1,4 @@
 -- `lines::numbers_line` meets its contract.
--- Assumes nothing.
 use Rattle.key_value_text.specs.Lines.{Value.numbers, valueBytes}
 use Rattle.key_value_text.proofs.LinePuts.{line-put}
 use borrow.Author.Needs.{needs}

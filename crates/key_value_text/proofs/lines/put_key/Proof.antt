@@ -1,5 +1,4 @@
 -- `lines::put_key` meets its contract.
--- Assumes nothing.
 use borrow.Author.Needs.{needs}
 use denote.Ref.{now}
 use Rattle.text_output.proofs.Puts.{byte-after}

@@ -1,5 +1,4 @@
 -- `lines::text_line` meets its contract: as many bytes as the text has are the text.
--- Assumes nothing.
 use Prim.Native.Nat.{ℕ}
 use mathlib.Core.Path.{_≡_, ap, _∙_}
 use mathlib.Core.List.{List}

@@ -1,5 +1,4 @@
 -- `framebuffer::write` meets its contract.
--- Assumes nothing.
 use borrow.Author.Needs.{needs}
 use Rattle.listing_lines.proofs.framebuffer.write.Statement.{statement}
 use Rattle.listing_lines.proofs.framebuffer.write.Tie as tie

@@ -1,5 +1,4 @@
 -- `kernel::bases` meets its contract.
--- Assumes nothing.
 use borrow.Author.Needs.{needs}
 use Rattle.listing_lines.proofs.kernel.bases.Statement.{statement}
 use Rattle.listing_lines.proofs.kernel.bases.Tie as tie

@@ -1,5 +1,4 @@
 -- `kernel::partition` meets its contract.
--- Assumes nothing.
 use borrow.Author.Needs.{needs}
 use Rattle.listing_lines.proofs.kernel.partition.Statement.{statement}
 use Rattle.listing_lines.proofs.kernel.partition.Tie as tie

@@ -1,5 +1,4 @@
 -- `kernel::write` meets its contract.
--- Assumes nothing.
 use Rattle.key_value_text.proofs.LinePuts.{lines-append}
 use borrow.Author.Needs.{needs}
 use Rattle.listing_lines.proofs.kernel.write.Statement.{statement}

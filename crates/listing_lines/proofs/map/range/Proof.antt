@@ -1,5 +1,4 @@
 -- `map::range` meets its contract.
--- Assumes nothing.
 use borrow.Author.Needs.{needs}
 use Rattle.listing_lines.proofs.map.range.Statement.{statement}
 use Rattle.listing_lines.proofs.map.range.Tie as tie

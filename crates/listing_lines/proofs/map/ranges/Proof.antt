@@ -1,5 +1,4 @@
 -- `map::ranges` meets its contract. The invariant: the ranges that are left, put from here on, lead to what all of them lead to.
--- Assumes nothing.
 use Prim.Native.Nat.{_+_, _-_, _*_, _≤_}
 use mathlib.Core.Path.{_≡_, refl, sym, _∙_}
 use native.Mathlib.Nat.{add-zero, sub-zero}

@@ -1,5 +1,4 @@
 -- `map::write` meets its contract.
--- Assumes nothing.
 use Prim.Native.Nat.{_+_, _-_, _/_}
 use denote.Ref.{now}
 use Rattle.listing_format.proofs.LineLaws.{length-entries}

@@ -1,5 +1,4 @@
 -- `module::write` meets its contract.
--- Assumes nothing.
 use borrow.Author.Needs.{needs}
 use Rattle.listing_lines.proofs.module.write.Statement.{statement}
 use Rattle.listing_lines.proofs.module.write.Tie as tie

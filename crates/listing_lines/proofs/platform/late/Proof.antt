@@ -1,5 +1,4 @@
 -- `platform::late` meets its contract.
--- Assumes nothing.
 use borrow.Author.Tests.{le-leb, lt-leb}
 use borrow.Author.Needs.{needs}
 use Rattle.listing_lines.proofs.platform.late.Statement.{statement}

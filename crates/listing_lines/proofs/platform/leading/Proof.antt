@@ -1,5 +1,4 @@
 -- `platform::leading` meets its contract.
--- Assumes nothing.
 use borrow.Author.Needs.{needs}
 use Rattle.listing_lines.proofs.platform.leading.Statement.{statement}
 use Rattle.listing_lines.proofs.platform.leading.Tie as tie

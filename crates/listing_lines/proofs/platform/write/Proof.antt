@@ -1,5 +1,4 @@
 -- `platform::write` meets its contract.
--- Assumes nothing.
 use borrow.Author.Needs.{needs}
 use Rattle.listing_lines.proofs.platform.write.Statement.{statement}
 use Rattle.listing_lines.proofs.platform.write.Tie as tie

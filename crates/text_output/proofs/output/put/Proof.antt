@@ -1,5 +1,4 @@
 -- `output::put` meets its contract: a byte past the end is not put.
--- Assumes nothing.
 use borrow.Author.Needs.{needs}
 use denote.Ref.{now}
 use Rattle.text_output.proofs.Puts.{put-past, put-within}

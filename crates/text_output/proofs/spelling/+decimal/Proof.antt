@@ -1,5 +1,4 @@
 -- The proof of `spelling::decimal`, which calls itself: the number falls to its tenth, whose digits come first.
--- Assumes nothing.
 use Prim.Native.Nat.{ℕ, _/_, _<_}
 use mathlib.Core.Path.{sym, _∙_}
 use native.Mathlib.Omega.{arith}

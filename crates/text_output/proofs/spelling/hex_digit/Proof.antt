@@ -1,5 +1,4 @@
 -- `spelling::hex_digit` meets its contract.
--- Assumes nothing.
 use borrow.Author.Needs.{needs}
 use borrow.Author.Tests.{lt-ltb, le-ltb}
 use Rattle.text_output.specs.Spelling.{hexDigit}

@@ -1,5 +1,4 @@
 -- `spelling::hex_pair` meets its contract.
--- Assumes nothing.
 use mathlib.Core.Path.{ap, _∙_}
 use borrow.Author.Needs.{needs}
 use Rattle.text_output.specs.Output.{put}

@@ -1,5 +1,4 @@
 -- `spelling::is_escaped` meets its contract.
--- Assumes nothing.
 use borrow.Author.Tests.{le-leb, lt-leb, eq-eqb, ne-eqb}
 use Rattle.text_output.specs.Spelling.{isEscaped}
 use Rattle.text_output.proofs.spelling.is_escaped.Statement.{statement}

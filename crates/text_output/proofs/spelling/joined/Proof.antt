@@ -1,5 +1,4 @@
 -- `spelling::joined` meets its contract. The invariant: what is left, put from here on, leads to what all of it leads to.
--- Assumes nothing.
 use Prim.Native.Nat.{_-_, _≤_}
 use mathlib.Core.Path.{_≡_, refl, sym, _∙_}
 use native.Mathlib.Omega.{arith}
@@ -7,7 +6,7 @@ use borrow.Author.Needs.{needs}
 use lib.ListN.{length, drop}
 use denote.Ref.{now}
 use Rattle.text_output.specs.Output.{puts}
-use Rattle.text_output.specs.Spelling.{each, after, joined}
+use Rattle.text_output.specs.Spelling.{each, after}
 use Rattle.text_output.proofs.Puts.{byte-before, list-next, list-end, joined-none, joined-first}
 use Rattle.text_output.proofs.spelling.joined.Statement.{statement}
 use Rattle.text_output.proofs.spelling.joined.Tie as tie

@@ -1,11 +1,9 @@
 -- `spelling::spelled` meets its contract.
--- Assumes nothing.
 use mathlib.Core.Path.{sym, ap, _∙_}
 use mathlib.Core.Bool.{true, false}
 use borrow.Author.Needs.{needs}
 use Rattle.text_output.proofs.Puts.{byte-before, puts-one}
 use Rattle.text_output.proofs.Digits.{escaped-byte, plain-byte}
-use Rattle.text_output.specs.Output.{puts}
 use Rattle.text_output.proofs.spelling.spelled.Statement.{statement}
 use Rattle.text_output.proofs.spelling.spelled.Tie as tie
 

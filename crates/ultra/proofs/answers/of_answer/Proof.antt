@@ -1,5 +1,4 @@
 -- `ultra::answers::of_answer` meets its contract, case by case.
--- Assumes nothing.
 use mathlib.Core.Path.{sym, ap, _∙_}
 use Rattle.ultra.specs.Crossing.{answerCrossed}
 use native.Mathlib.Nat.{zero-add}

@@ -1,5 +1,4 @@
 -- `ultra::answers::of_reading` meets its contract, case by case.
--- Assumes nothing.
 use mathlib.Core.Path.{sym, ap, _∙_}
 use Rattle.ultra.specs.Crossing.{readingCrossed}
 use native.Mathlib.Nat.{zero-add}

@@ -1,5 +1,4 @@
 -- `ultra::answers::of_step` meets its contract, case by case.
--- Assumes nothing.
 use mathlib.Core.Path.{sym, ap, _∙_}
 use Rattle.ultra.specs.Crossing.{stepCrossed}
 use native.Mathlib.Nat.{zero-add}

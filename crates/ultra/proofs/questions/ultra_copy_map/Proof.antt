@@ -1,5 +1,4 @@
 -- `ultra::questions::ultra_copy_map` meets its contract: the answer of the call below, crossed.
--- Assumes nothing.
 use Rattle.ultra.proofs.Crossings.{crossing}
 use borrow.Author.Needs.{needs}
 use Rattle.ultra.proofs.questions.ultra_copy_map.Statement.{statement}

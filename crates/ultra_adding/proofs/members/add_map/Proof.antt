@@ -1,5 +1,4 @@
 -- `ultra_adding::members::add_map` meets its contract.
--- Assumes nothing.
 use Prim.Native.Nat.{ℕ, _+_, _*_, _/_, _%_}
 use mathlib.Core.Path.{_≡_, refl}
 use mathlib.Core.List.{List}

@@ -1,5 +1,4 @@
 -- `ultra_adding::members::add_module` meets its contract.
--- Assumes nothing.
 use mathlib.Core.Path.{refl, _∙_}
 use mathlib.Core.Bool.{true}
 use native.Mathlib.Omega.{arith}

@@ -1,5 +1,4 @@
 -- `ultra_arguments::kernel::guids_formed` meets its contract: each return from the tests that lead there.
--- Assumes nothing.
 use borrow.Author.Tests.{eq-eqb, ne-eqb}
 use Rattle.ultra_arguments.proofs.kernel.guids_formed.Statement.{statement}
 use Rattle.ultra_arguments.proofs.kernel.guids_formed.Tie as tie

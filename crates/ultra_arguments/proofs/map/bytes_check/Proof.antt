@@ -1,5 +1,4 @@
 -- `ultra_arguments::map::bytes_check` meets its contract: the entries that the numbers give are those in the bytes.
--- Assumes nothing.
 use Prim.Native.Nat.{_+_, _*_, _/_}
 use mathlib.Core.Path.{_≡_, _∙_}
 use borrow.Author.Needs.{needs}

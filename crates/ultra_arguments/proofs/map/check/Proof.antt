@@ -1,5 +1,4 @@
 -- `ultra_arguments::map::check` meets its contract: each test answers for its rule.
--- Assumes nothing.
 use mathlib.Core.Path.{refl, _∙_}
 use borrow.Author.Needs.{needs}
 use denote.Ref.{now}

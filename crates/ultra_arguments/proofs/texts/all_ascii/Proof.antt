@@ -1,5 +1,4 @@
 -- `ultra_arguments::texts::all_ascii` meets its contract. The invariant: all bytes are ASCII if and only if those left are.
--- Assumes nothing.
 use Prim.Native.Nat.{ℕ, _-_, _≤_, _<_}
 use mathlib.Core.Path.{_≡_, refl, sym, ap, _∙_}
 use mathlib.Core.Bool.{true, false, and-false}

@@ -1,5 +1,4 @@
 -- `ultra_arguments::texts::ascii` meets its contract: a text is shorter than its field.
--- Assumes nothing.
 use mathlib.Core.Path.{sym, _∙_}
 use borrow.Author.Tests.{lt-ltb, le-ltb}
 use Rattle.ultra_format.specs.Members.{asciiText}

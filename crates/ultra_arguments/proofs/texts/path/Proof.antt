@@ -1,5 +1,4 @@
 -- `ultra_arguments::texts::path` meets its contract: each return from the tests that lead there.
--- Assumes nothing.
 use Rattle.ultra_arguments.proofs.Paths.{path-long, path-empty, path-elsewhere, path-given}
 use borrow.Author.Needs.{needs}
 use Rattle.ultra_arguments.proofs.texts.path.Statement.{statement}

@@ -1,5 +1,4 @@
 -- `ultra_arguments::texts::trimmed_length` meets its contract. The invariant: the first n bytes give the same text as all of them.
--- Assumes nothing.
 use Prim.Native.Nat.{_-_, _≤_}
 use mathlib.Core.Path.{_≡_, refl, sym, ap, _∙_}
 use native.Mathlib.Omega.{arith}

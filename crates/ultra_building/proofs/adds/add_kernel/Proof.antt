@@ -1,5 +1,4 @@
 -- `ultra_building::adds::add_kernel` meets its contract: the members are those of the record.
--- Assumes nothing.
 use mathlib.Core.Path.{_≡_, _∙_}
 use mathlib.Core.Bool.{true}
 use borrow.Author.Needs.{needs}

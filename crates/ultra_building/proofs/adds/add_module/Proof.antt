@@ -1,5 +1,4 @@
 -- `ultra_building::adds::add_module` meets its contract: the members are those of the record.
--- Assumes nothing.
 use Prim.Native.Nat.{ℕ}
 use mathlib.Core.Path.{ap, _∙_}
 use mathlib.Core.Bool.{true}

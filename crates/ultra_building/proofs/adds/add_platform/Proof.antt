@@ -1,5 +1,4 @@
 -- `ultra_building::adds::add_platform` meets its contract: the members are those of the record.
--- Assumes nothing.
 use mathlib.Core.Path.{_∙_}
 use borrow.Author.Needs.{needs}
 use denote.Ref.{now}

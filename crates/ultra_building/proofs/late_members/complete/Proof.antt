@@ -1,5 +1,4 @@
 -- `ultra_building::late_members::complete` meets its contract: each return from the tests that lead there.
--- Assumes nothing.
 use borrow.Author.Needs.{needs}
 use Rattle.ultra_format.specs.Members.{sizeSuits}
 use Rattle.words.proofs.Comparisons.{failed, held}

@@ -1,5 +1,4 @@
 -- `ultra_layout::kernel::guid` meets its contract.
--- Assumes nothing.
 use mathlib.Core.Path.{_∙_}
 use native.Mathlib.Omega.{arith}
 use Rattle.byte_layout.proofs.Copies.{bytes-whole}

@@ -1,5 +1,4 @@
 -- `ultra_layout::platform::depth` meets its contract.
--- Assumes nothing.
 use native.Mathlib.Nat.{add-zero}
 use borrow.Author.Tests.{le-leb, lt-leb}
 use Rattle.words.specs.Words.{numberAt}

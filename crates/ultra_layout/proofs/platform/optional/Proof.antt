@@ -1,5 +1,4 @@
 -- `ultra_layout::platform::optional` meets its contract.
--- Assumes nothing.
 use Prim.Native.Nat.{_+_}
 use borrow.Author.Tests.{le-leb, lt-leb}
 use borrow.Author.Needs.{needs}

@@ -1,6 +1,5 @@
 -- `attributes::all` meets its contract. The invariant: `at` is where attribute `i` starts, and the attributes that are left, put from here
 -- on, lead to what all of them lead to.
--- Assumes nothing.
 use Prim.Native.Nat.{ℕ, _+_, _-_, _≤_}
 use mathlib.Core.Path.{_≡_, refl, sym, ap, _∙_}
 use mathlib.Core.List.{List}

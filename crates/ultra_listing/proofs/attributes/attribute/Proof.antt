@@ -1,5 +1,4 @@
 -- `attributes::attribute` meets its contract, by the type.
--- Assumes nothing.
 use native.Mathlib.Omega.{arith}
 use denote.Ref.{now}
 use Rattle.ultra_format.proofs.Sizes.{platform-least, kernel-least, module-least, framebuffer-least}

@@ -1,5 +1,4 @@
 -- `context::accepted` meets its contract.
--- Assumes nothing.
 use native.Mathlib.Omega.{arith}
 use denote.Ref.{now}
 use Rattle.key_value_text.proofs.LinePuts.{lines-append}

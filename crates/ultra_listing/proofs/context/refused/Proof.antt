@@ -1,5 +1,4 @@
 -- `context::refused` meets its contract.
--- Assumes nothing.
 use borrow.Author.Needs.{needs}
 use Rattle.ultra_listing.proofs.context.refused.Statement.{statement}
 use Rattle.ultra_listing.proofs.context.refused.Tie as tie

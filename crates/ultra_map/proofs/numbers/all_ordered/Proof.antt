@@ -1,5 +1,4 @@
 -- `ultra_map::numbers::all_ordered` meets its contract. The invariant: all entries are in order if and only if those left are.
--- Assumes nothing.
 use mathlib.Core.Path.{refl, sym, _∙_}
 use native.Mathlib.Omega.{arith}
 use borrow.Author.Needs.{needs}

@@ -1,5 +1,4 @@
 -- `ultra_map::numbers::all_typed` meets its contract. The invariant: all entries have a type if and only if those left have.
--- Assumes nothing.
 use mathlib.Core.Path.{refl, sym, ap, _∙_}
 use mathlib.Core.Bool.{not}
 use native.Mathlib.Omega.{arith}

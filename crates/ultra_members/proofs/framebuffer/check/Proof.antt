@@ -1,5 +1,4 @@
 -- `ultra_members::framebuffer::check` meets its contract: each test answers for its rule.
--- Assumes nothing.
 use Prim.Native.Nat.{_*_}
 use mathlib.Core.Path.{refl, _∙_}
 use native.Mathlib.Omega.{arith}

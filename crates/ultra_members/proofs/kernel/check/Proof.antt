@@ -1,12 +1,11 @@
 -- `ultra_members::kernel::check` meets its contract: each test answers for its rule.
--- Assumes nothing.
 use mathlib.Core.Path.{refl, ap₂, _∙_}
 use mathlib.Core.Bool.{true, _&&_}
 use native.Mathlib.Omega.{arith}
 use borrow.Author.Needs.{needs}
 use borrow.Author.Tests.{le-leb, lt-leb}
 use Rattle.address_ranges.specs.Ranges.{rangeFits}
-use Rattle.ultra_format.specs.Members.{kernelValues, sizeSuits, values, texts, ranges, ordered, memberCheck}
+use Rattle.ultra_format.specs.Members.{kernelValues, sizeSuits, values, texts, ranges, ordered}
 use Rattle.ultra_rules.proofs.Judged.{misfits, judged}
 use Rattle.ultra_members.proofs.kernel.check.Statement.{statement}
 use Rattle.ultra_members.proofs.kernel.check.Tie as tie

@@ -1,5 +1,4 @@
 -- `ultra_members::map::check` meets its contract: a size that suits the table is the one that its entries are written with.
--- Assumes nothing.
 use Prim.Native.Nat.{_+_, _-_, _*_, _/_}
 use mathlib.Core.Path.{_≡_, _∙_, ap}
 use native.Mathlib.Omega.{arith}

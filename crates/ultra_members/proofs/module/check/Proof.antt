@@ -1,5 +1,4 @@
 -- `ultra_members::module::check` meets its contract: each test answers for its rule.
--- Assumes nothing.
 use mathlib.Core.Path.{refl, _∙_}
 use native.Mathlib.Omega.{arith}
 use borrow.Author.Needs.{needs}

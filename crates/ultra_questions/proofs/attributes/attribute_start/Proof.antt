@@ -1,5 +1,4 @@
 -- `ultra_questions::attributes::attribute_start` meets its contract.
--- Assumes nothing.
 use mathlib.Core.Path.{sym, ap, _∙_}
 use native.Mathlib.Omega.{arith}
 use denote.Ref.{now}

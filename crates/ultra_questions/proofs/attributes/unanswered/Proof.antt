@@ -1,5 +1,4 @@
 -- `ultra_questions::attributes::unanswered` meets its contract.
--- Assumes nothing.
 use borrow.Author.Needs.{needs}
 use Rattle.ultra_questions.proofs.attributes.unanswered.Statement.{statement}
 use Rattle.ultra_questions.proofs.attributes.unanswered.Tie as tie

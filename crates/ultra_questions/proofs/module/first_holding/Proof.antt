@@ -1,6 +1,5 @@
 -- `ultra_questions::module::first_holding` meets its contract. The invariant: `at` is where attribute `i` starts, and the search from
 -- there on finds what the whole search finds.
--- Assumes nothing.
 use Prim.Native.Nat.{ℕ, _-_, _≤_}
 use mathlib.Core.Path.{_≡_, refl, sym, ap, _∙_}
 use native.Mathlib.Omega.{arith}

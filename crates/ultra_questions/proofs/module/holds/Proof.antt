@@ -1,5 +1,4 @@
 -- `ultra_questions::module::holds` meets its contract.
--- Assumes nothing.
 use Prim.Native.Nat.{ℕ, _≤_}
 use mathlib.Core.Path.{sym, ap₂, _∙_}
 use native.Mathlib.Omega.{arith}

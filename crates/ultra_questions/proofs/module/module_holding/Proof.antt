@@ -1,5 +1,4 @@
 -- `ultra_questions::module::module_holding` meets its contract.
--- Assumes nothing.
 use mathlib.Core.Path.{sym, ap, _∙_}
 use denote.Ref.{now}
 use Rattle.refusals.specs.declared.Answer.the-variants.{Done}

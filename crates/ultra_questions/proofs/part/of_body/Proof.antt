@@ -1,5 +1,4 @@
 -- `ultra_questions::part::of_body` meets its contract.
--- Assumes nothing.
 use Prim.Native.Nat.{_+_, _≤_}
 use mathlib.Core.Path.{ap, _∙_}
 use native.Mathlib.Omega.{arith}

@@ -1,6 +1,5 @@
 -- `ultra_reading::walk::attributes` meets its contract. The invariant: `at` is where attribute `i` starts, none before it breaks one of
 -- 5 to 8, and the answer from it on is the answer from the first on.
--- Assumes nothing.
 use Prim.Native.Nat.{_-_, _≤_}
 use mathlib.Core.Path.{_≡_, refl}
 use native.Mathlib.Omega.{arith}

@@ -1,5 +1,4 @@
 -- `ultra_reading::walk::check` meets its contract: one law a return.
--- Assumes nothing.
 use Prim.Native.Nat.{ℕ}
 use mathlib.Core.Path.{_≡_, sym, ap, ap₂, _∙_}
 use Rattle.words.specs.Words.{u32At}

@@ -1,5 +1,4 @@
 -- `ultra_reading::walk::place_check` meets its contract: a type above those before is new.
--- Assumes nothing.
 use native.Mathlib.Omega.{arith}
 use Rattle.ultra_places.proofs.PlaceLaws.{length-types}
 use Rattle.ultra_reading.proofs.ReadingLaws.{pass-above}

@@ -1,5 +1,4 @@
 -- `ultra_records::framebuffer::read` meets its contract.
--- Assumes nothing.
 use borrow.Author.Needs.{needs}
 use Rattle.ultra_records.proofs.framebuffer.read.Statement.{statement}
 use Rattle.ultra_records.proofs.framebuffer.read.Tie as tie

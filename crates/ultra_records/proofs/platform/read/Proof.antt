@@ -1,5 +1,4 @@
 -- `ultra_records::platform::read` meets its contract.
--- Assumes nothing.
 use mathlib.Core.Path.{_∙_}
 use Prim.Native.Nat.{_+_}
 use Rattle.byte_layout.proofs.Copies.{text-padded}

@@ -1,5 +1,4 @@
 -- `ultra_rules::framebuffer::bpp_suits` meets its contract: each return from the range that the format lies in.
--- Assumes nothing.
 use mathlib.Core.Bool.{or-false}
 use native.Mathlib.Omega.{arith}
 use borrow.Author.Tests.{le-leb, lt-leb}

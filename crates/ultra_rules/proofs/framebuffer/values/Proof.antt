@@ -1,5 +1,4 @@
 -- `ultra_rules::framebuffer::values` meets its contract: the products are formed in 64 bits, which hold them.
--- Assumes nothing.
 use native.Mathlib.Omega.{arith}
 use borrow.Author.Needs.{needs}
 use Rattle.ultra_format.specs.Members.{framebufferValues}

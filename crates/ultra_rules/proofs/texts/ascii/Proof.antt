@@ -1,5 +1,4 @@
 -- `ultra_rules::texts::ascii` meets its contract. The invariant: the whole text is as the rule says if and only if the rest is.
--- Assumes nothing.
 use Prim.Native.Nat.{_+_, _-_, _≤_}
 use mathlib.Core.Path.{_≡_, sym, _∙_}
 use native.Mathlib.Omega.{arith}

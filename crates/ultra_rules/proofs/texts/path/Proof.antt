@@ -1,5 +1,4 @@
 -- `ultra_rules::texts::path` meets its contract: a text begins with its field's first byte, and none of its bytes is zero.
--- Assumes nothing.
 use borrow.Author.Needs.{needs}
 use Rattle.ultra_rules.proofs.Letters.{path-stop, path-rest}
 use Rattle.ultra_rules.proofs.texts.path.Statement.{statement}

@@ -1,5 +1,4 @@
 -- `ultra_stepping::bounds::check` meets its contract: one law a return.
--- Assumes nothing.
 use native.Mathlib.Omega.{arith}
 use Rattle.ultra_stepping.proofs.BoundsLaws.{stop-header, stop-least, stop-eights, stop-overrun, stop-type, bounds-pass}
 use borrow.Author.Needs.{needs}

@@ -1,5 +1,4 @@
 -- `ultra_stepping::cursor::check` meets its contract: one law a return.
--- Assumes nothing.
 use Prim.Native.Nat.{ℕ}
 use mathlib.Core.Path.{ap, _∙_}
 use Rattle.ultra_stepping.specs.Checks.{boundsCheck}

@@ -1,5 +1,4 @@
 -- `ultra_stepping::head::check` meets its contract: one law a return.
--- Assumes nothing.
 use native.Mathlib.Omega.{arith}
 use Rattle.ultra_stepping.proofs.HeadLaws.{stop-short, stop-version, stop-count, stop-missing, head-passes}
 use borrow.Author.Needs.{needs}

@@ -1,6 +1,5 @@
 -- `ultra_stepping::walk::first_of_type` meets its contract. The invariant: `at` is where attribute `i` starts, and the search from there
 -- on finds what the whole search finds.
--- Assumes nothing.
 use Prim.Native.Nat.{_-_, _≤_}
 use mathlib.Core.Path.{_≡_, sym, _∙_}
 use native.Mathlib.Omega.{arith}

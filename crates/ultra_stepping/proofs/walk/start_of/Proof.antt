@@ -1,5 +1,4 @@
 -- `ultra_stepping::walk::start_of` meets its contract. The invariant: `at` is where attribute `i` starts.
--- Assumes nothing.
 use Prim.Native.Nat.{_-_, _≤_}
 use mathlib.Core.Path.{_≡_, ap, _∙_}
 use native.Mathlib.Omega.{arith}

@@ -1,5 +1,4 @@
 -- `command_line::size` meets its contract.
--- Assumes nothing.
 use mathlib.Core.Path.{sym}
 use borrow.Author.Needs.{needs}
 use Rattle.ultra_writing.proofs.Line.{line-size}

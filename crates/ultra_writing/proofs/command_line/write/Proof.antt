@@ -1,5 +1,4 @@
 -- `command_line::write` meets its contract: the text is one field.
--- Assumes nothing.
 use Prim.Native.Nat.{_-_}
 use native.Mathlib.Omega.{arith}
 use Rattle.byte_layout.specs.Fields.{width, Field.text}

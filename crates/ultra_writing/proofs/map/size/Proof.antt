@@ -1,5 +1,4 @@
 -- `map::size` meets its contract: three numbers are an entry.
--- Assumes nothing.
 use mathlib.Core.Path.{sym}
 use borrow.Author.Needs.{needs}
 use Rattle.ultra_writing.proofs.Entries.{map-size}

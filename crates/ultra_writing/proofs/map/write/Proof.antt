@@ -1,5 +1,4 @@
 -- `map::write` meets its contract: after i turns the first i numbers are fields after the header.
--- Assumes nothing.
 use Prim.Native.Nat.{_+_, _-_, _*_, _≤_}
 use mathlib.Core.Path.{_≡_, refl}
 use mathlib.Core.List.{List, [], _∷_}

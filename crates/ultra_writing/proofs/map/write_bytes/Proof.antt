@@ -1,5 +1,4 @@
 -- `map::write_bytes` meets its contract: the bytes are the entries' fields.
--- Assumes nothing.
 use Prim.Native.Nat.{_+_}
 use native.Mathlib.Omega.{arith}
 use lib.ListN.{length}

@@ -1,5 +1,4 @@
 -- `platform::write` meets its contract: each member is a field more.
--- Assumes nothing.
 use native.Mathlib.Omega.{arith}
 use mathlib.Core.Path.{_≡_}
 use lib.ListN.{length, set, length-set}

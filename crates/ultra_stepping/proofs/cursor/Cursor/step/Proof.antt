@@ -1,5 +1,4 @@
 -- `ultra_stepping::cursor::Cursor::step` meets its contract: one law a return.
--- Assumes nothing.
 use Prim.Native.Nat.{ℕ, _+_}
 use mathlib.Core.Path.{_≡_, sym, ap, ap₂, _∙_}
 use Rattle.refusals.specs.Answers.{refusal}
