@@ -6,9 +6,6 @@ ghost use Rattle.words.specs.Words.{u32At};
 
 pub const SIZE: usize = 4;
 
-// Where the members start.
-pub const BODY: usize = 8;
-
 pub fn kind(bytes: &[u8], at: usize) -> u32
     requires { ⌜ at + 8 ≤ length (now bytes) ⌝ }
     ensures { λ r. ⌜ r ≡ u32At (now (bytes .entry)) at ⌝ }
