@@ -1,6 +1,6 @@
 -- Fields at places of their own: rows of fields, each with the byte that it starts at. Rows may overlap and share bytes, as strings do that
 -- others point to. Fields has the case of one row from byte 0 on.
--- Serves proofs alone: no published contract or statement rests on it.
+-- Serves the library's own functions and proofs: no published contract or promise rests on it.
 use Prim.Native.Nat.{ℕ, _+_, _≤_, _<_}
 use mathlib.Core.Path.{_≡_}
 use mathlib.Core.List.{List}
@@ -12,8 +12,8 @@ use Rattle.byte_layout.specs.Fields.{Cell.byte, Cell.silent}
 abbrev pub LiesAt : List ℕ → ℕ → List Cell → Type 0
 LiesAt b o cs = (i n : ℕ) → i < length cs → getD cs i silent ≡ byte n → getD b (o + i) 0 ≡ n
 
--- the rows open a buffer of which they take n bytes: these are in it, and each row lies there. `rows o fs` says that fs is a row from
--- byte `o` on.
+-- the rows open a buffer of at least n bytes: each lies there. `rows o fs` says that fs is a row from byte `o` on. That every row ends by
+-- byte n is said apart (`PlacedWithin`).
 pub record PlacedOpens (b : List ℕ) (n : ℕ) (rows : ℕ → List Field → Type 0) : Type 0 where
   pub within : n ≤ length b
   pub lies : (o : ℕ) (fs : List Field) → rows o fs → LiesAt b o (cells fs)

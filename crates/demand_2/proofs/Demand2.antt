@@ -60,7 +60,7 @@ begun-long b e = go (leb 8 (roomOf b)) refl e
     go true q w = omega (arith, leb-true 8 (roomOf b) q)
     go false q w = absurd (let z : _≡_ {A = ℕ} 0 1 = cc in omega arith)
 
--- ---- after any calls after it
+-- ---- after any further calls
 module _ (b : List ℕ) (ks : List AnyCall) (e : begun b .0 ≡ Done 8) (y : AllTyped ks) where
   -- the buffer is as long as it was, and keeps to the list
   kept : Keeps (bufferNow b ks) (listNow b ks) × (length (bufferNow b ks) ≡ length b)

@@ -9,7 +9,6 @@
 -- What is assumed: nobody else writes the buffer, so that a call finds what the call before left (`after`); it is lent for nothing but
 -- its context, so that no text, map or output that a call is given beside it is a part of it (they are lists of their own); and
 -- arguments of adds are of their types (`AllTyped`, Arguments).
--- Assumes nothing else.
 -- A reader has to believe this file.
 use Prim.Native.Nat.{ℕ, zero, suc, _+_, _/_, _%_, _≤_, _<_}
 use mathlib.Core.Path.{_≡_}

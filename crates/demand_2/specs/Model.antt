@@ -22,7 +22,7 @@ use Rattle.refusals.specs.declared.Refusal.{Refusal}
 use Rattle.refusals.specs.declared.Answer.{Answer}
 use Rattle.refusals.specs.declared.Answer.the-variants.{Done, Refused}
 use Rattle.ultra_stepping.specs.Checks.{boundsCheck}
-use Rattle.ultra_stepping.specs.Stepping.{stepRefused, cursorAt, headerAt}
+use Rattle.ultra_stepping.specs.Stepping.{stepRefused, cursorAt, headerAt, stepRefusedAt}
 use Rattle.ultra_reading.specs.declared.Reading.the-variants as readings
 use Rattle.ultra_stepping.specs.declared.cursor.Cursor.{Cursor}
 use Rattle.ultra_stepping.specs.declared.cursor.Step.{Step}
@@ -100,7 +100,7 @@ listAfterAll room (k ∷ ks) gs = listAfterAll room ks (listAfter room (inRattle
 -- a step from a cursor within the list: the tests of 5 to 8 on the bytes that the list is written in
 abbrev pub stepWithin : ℕ → List ℕ → Cursor → Step
 stepWithin room w k =
-    stepRefused (unless (leb 8 (k .offset) && eqb (k .offset % 8) 0) HEADER (boundsCheck w room (k .offset))) (k .offset)
+    stepRefusedAt (unless (leb 8 (k .offset) && eqb (k .offset % 8) 0) HEADER (boundsCheck w room (k .offset))) (k .index) (k .offset)
     (stepping.Attribute (headerAt w (k .offset)) (cursorAt (k .index + 1) (k .offset + u32At w (k .offset + 4))))
 
 abbrev pub stepIn : ℕ → Context → Cursor → Step

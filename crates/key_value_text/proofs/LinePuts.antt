@@ -5,7 +5,8 @@ use Prim.Native.Nat.{ℕ}
 use Rattle.text_output.specs.Output.{State, put, puts}
 use Rattle.text_output.specs.Spelling.{each}
 use Rattle.text_output.proofs.Puts.{puts-append, after-it, byte-after}
-use Rattle.key_value_text.specs.Lines.{Value, Line, line, keyBytes, valueBytes, lineBytes, linesBytes, putLines}
+use Rattle.key_value_text.specs.Lines.{Value, Line, line, keyBytes, valueBytes, lineBytes, linesBytes}
+use Rattle.key_value_text.specs.LineOutput.{putLines}
 
 -- ---- a line: its key, its value, its newline
 pub line-put : (s t u v : State) (k : List ℕ) (x : Value) → t ≡ puts s (keyBytes k) → u ≡ puts t (valueBytes x) → v ≡ put u 10 → v ≡ puts s (lineBytes (line k x))

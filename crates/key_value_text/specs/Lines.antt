@@ -3,7 +3,6 @@
 use Prim.Native.Nat.{ℕ}
 use Prim.Native.Char.{code}
 use mathlib.Core.List.{List, [], _∷_, _++_}
-use Rattle.text_output.specs.Output.{State, puts}
 use Rattle.text_output.specs.Spelling.{each, joined, hexPair, spelled}
 
 -- `numbers c ns`: the numbers ns with the character c between them
@@ -39,8 +38,3 @@ lineBytes l = keyBytes (l .key) ++ valueBytes (l .value) ++ (code "\n" ∷ [])
 
 abbrev pub linesBytes : List Line → List ℕ
 linesBytes ls = each lineBytes ls
-
--- lines put one after the other: what `linesBytes` puts (proved as `lines-put`), a line at a time, as a writer puts them
-abbrev pub putLines : State → List Line → State
-putLines s [] = s
-putLines s (x ∷ ls) = putLines (puts s (lineBytes x)) ls

@@ -10,7 +10,8 @@ use lib.ListN.{length, getD}
 use Rattle.words.specs.Words.{numberAt}
 use Rattle.byte_layout.specs.Stored.{bytesAt}
 use Rattle.text_output.specs.Output.{State, puts}
-use Rattle.key_value_text.specs.Lines.{lineBytes, putLines}
+use Rattle.key_value_text.specs.Lines.{lineBytes}
+use Rattle.key_value_text.specs.LineOutput.{putLines}
 use Rattle.key_value_text.proofs.LinePuts.{lines-append}
 use Rattle.ultra_format.specs.Contexts.{Body, Body.other, used}
 use Rattle.ultra_format.specs.Decoding.{decoded, entryAt, entriesAt, start, storedType, storedSize, storedCount, storedAttribute, attributesFrom, contextOf}

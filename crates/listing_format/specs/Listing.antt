@@ -1,5 +1,5 @@
 -- The listing of a context: document 01, "The listing". "A program reads up to 65,536 bytes of standard input and prints key=value lines."
--- What is listed, and in which order, is said here as lines; how a line is spelled is crate key_value_text.
+-- What is listed, and in which order, is said here as lines; how a line is spelled is crates key_value_text and text_output.
 -- A reader has to believe this file.
 use Prim.Native.Nat.{ℕ, _≤_}
 use Prim.Native.String.{String}

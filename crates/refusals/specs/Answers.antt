@@ -30,7 +30,7 @@ abbrev pub refusedUnless : ℕ → Refusal → Answer → Answer
 refusedUnless zero r rest = rest
 refusedUnless (suc n) r rest = Refused r
 
--- of the whole, with the number `n` at `o`
+-- that belongs to no attribute, with the number `n` at `o`
 abbrev pub orRefused : ℕ → ℕ → Answer → Answer
 orRefused n o rest = refusedUnless n (refusal n o) rest
 

@@ -51,19 +51,19 @@ SPLIT = 11
 abbrev pub FORM : ℕ
 FORM = 12
 
--- "values: ..", 01's member rules (Members, values)
+-- "values: ..", 01's member rules (ultra_format, Members, values)
 abbrev pub VALUE : ℕ
 VALUE = 13
 
--- "texts: .." (Members, texts)
+-- "texts: .." (ultra_format, Members, texts)
 abbrev pub TEXT : ℕ
 TEXT = 14
 
--- "ranges: .." (Members, ranges)
+-- "ranges: .." (ultra_format, Members, ranges)
 abbrev pub RANGE : ℕ
 RANGE = 15
 
--- "map order: .." (Members, ordered)
+-- "map order: .." (ultra_format, Members, ordered)
 abbrev pub ORDER : ℕ
 ORDER = 16
 

@@ -48,7 +48,7 @@ pub struct Refusal {
 }
 
 impl Refusal {
-    // A refusal of the whole. Every refusal is made here or by `at`.
+    // A refusal that belongs to no attribute. Every refusal is made here or by `at`.
     pub fn new(number: u16, offset: u32) -> Self
         ensures { λ r. ⌜ r ≡ refusal number offset ⌝ }
     {

@@ -1,6 +1,6 @@
 -- Bytes put into a lent output one after the other. A state is the output's bytes and the place of the next byte. A byte past the end is
 -- counted and not put, so that the same writer writes a text and measures it; the place stays at 2^32 − 1, which no listing comes near.
--- Serves proofs alone: no published contract or statement rests on it.
+-- Serves the library's own functions and proofs: no published contract or promise rests on it.
 use Prim.Native.Nat.{ℕ, _+_}
 use mathlib.Core.List.{List, [], _∷_}
 use lib.ListN.{set}

@@ -1,4 +1,4 @@
--- The law after the statements in specs/Unread.antt: two buffers that are equal at the bytes that are not silent, up to the first
+-- The law on which the statements rest in specs/Unread.antt: two buffers that are equal at the bytes that are not silent, up to the first
 -- refused attribute, are read alike.
 use Prim.Native.Nat.{ℕ, zero, suc, _+_, _≤_, _<_}
 use mathlib.Core.Path.{_≡_, refl, sym, ap, _∙_}

@@ -7,6 +7,7 @@ use mathlib.Core.Logic.{_⊎_, _⊎_.inl, _⊎_.inr}
 use native.Mathlib.Omega.{arith}
 use lib.ListN.{length, take, set, length-set}
 use lib.Seq.{getD-set-other, take-append-seam}
+use Rattle.refusals.specs.declared.Refusal.{Refusal}
 use Rattle.refusals.specs.Answers.{refusal}
 use Rattle.ultra_format.specs.Contexts.{Context, used}
 use Rattle.ultra_format.specs.Layouts.{Silent, roomOf}
@@ -38,9 +39,9 @@ module _ (exactly : ReadsExactly) (held : ReadsHeld) (refuses : ReadingRefuses) 
     where
       go : (a : Reading) → readingOf b ≡ a
           → ((c : Context) × HoldsContext 2 b c × (readingOf b ≡ reading.Accepted (versionIn c) (used c)))
-          ⊎ ((n : ℕ) × (o : ℕ) × Refuses 2 b n o × (readingOf b ≡ reading.Refused (refusal n o)))
+          ⊎ ((r : Refusal) × Refuses 2 b (readingNumber (reading.Refused r)) (readingValue (reading.Refused r)) × (readingOf b ≡ reading.Refused r))
       go (reading.Accepted v n) e = let s = exactly b y .0 (ap readingNumber e) in inl (s .0, s .1, held b (s .0) (s .1))
-      go (reading.Refused r) e = inr (r .number, r .offset, refuses b r .0 e, e)
+      go (reading.Refused r) e = inr (r, refuses b r .0 e, e)
 
   one-of-them : OneReadings
   one-of-them b n o t =
@@ -65,9 +66,9 @@ module _ (exactly : StepsExactly) where
   one-of-three b k = go (stepOf b k) refl
     where
       go : (a : Step) → stepOf b k ≡ a
-          → ((n : ℕ) × (o : ℕ) × StepRefuses b k n o × (stepOf b k ≡ Refused (refusal n o)))
+          → ((r : Refusal) × StepRefuses b k (stepNumber (Refused r)) (stepValue (Refused r)) × (stepOf b k ≡ Refused r))
           ⊎ ((StepEnds b k × (stepOf b k ≡ End)) ⊎ ((h : Header) × (m : Cursor) × StepGives b k h m × (stepOf b k ≡ Attribute h m)))
-      go (Refused r) e = inl (r .number, r .offset, exactly .refuses b k r .0 e, e)
+      go (Refused r) e = inl (r, exactly .refuses b k r .0 e, e)
       go End e = inr (inl (exactly .ends b k .0 e, e))
       go (Attribute h m) e = inr (inr (h, m, exactly .gives b k h m .0 e, e))
 

@@ -7,13 +7,14 @@ use mathlib.Core.Path.{_≡_}
 use mathlib.Core.Logic.{_⊎_}
 use mathlib.Core.List.{List, _++_}
 use lib.ListN.{length, getD, set}
+use Rattle.refusals.specs.declared.Refusal.{Refusal}
 use Rattle.refusals.specs.Answers.{refusal}
 use Rattle.ultra_format.specs.Contexts.{Context, used}
 use Rattle.ultra_format.specs.Layouts.{Silent}
 use Rattle.ultra_format.specs.Decoding.{contextOf}
 use Rattle.ultra_format.specs.Examples.{everyType, everyTypeBytes}
-use Rattle.ultra_reading.specs.Reading.{readingOf, readingNumber}
-use Rattle.ultra_stepping.specs.Stepping.{stepOf}
+use Rattle.ultra_reading.specs.Reading.{readingOf, readingNumber, readingValue}
+use Rattle.ultra_stepping.specs.Stepping.{stepOf, stepNumber, stepValue}
 use Rattle.ultra_reading.specs.declared.Reading.the-variants as reading
 use Rattle.ultra_stepping.specs.declared.cursor.Header.{Header}
 use Rattle.ultra_stepping.specs.declared.cursor.Cursor.{Cursor}
@@ -28,7 +29,7 @@ abbrev pub EveryReading : Type 0
 EveryReading =
     (b : List ℕ) → ((i : ℕ) → getD b i 0 < 256)
     → ((c : Context) × HoldsContext 2 b c × (readingOf b ≡ reading.Accepted (versionIn c) (used c)))
-    ⊎ ((n : ℕ) × (o : ℕ) × Refuses 2 b n o × (readingOf b ≡ reading.Refused (refusal n o)))
+    ⊎ ((r : Refusal) × Refuses 2 b (readingNumber (reading.Refused r)) (readingValue (reading.Refused r)) × (readingOf b ≡ reading.Refused r))
 
 -- and never both; the table names one refusal at most
 pub record OneReading (b : List ℕ) (n o : ℕ) : Type 0 where
@@ -42,7 +43,7 @@ OneReadings = (b : List ℕ) (n o : ℕ) → Refuses 2 b n o → OneReading b n 
 abbrev pub EveryStep : Type 0
 EveryStep =
     (b : List ℕ) (k : Cursor)
-    → ((n : ℕ) × (o : ℕ) × StepRefuses b k n o × (stepOf b k ≡ Refused (refusal n o)))
+    → ((r : Refusal) × StepRefuses b k (stepNumber (Refused r)) (stepValue (Refused r)) × (stepOf b k ≡ Refused r))
     ⊎ ((StepEnds b k × (stepOf b k ≡ End)) ⊎ ((h : Header) × (m : Cursor) × StepGives b k h m × (stepOf b k ≡ Attribute h m)))
 
 -- and only one of the three; here too the table names one refusal at most

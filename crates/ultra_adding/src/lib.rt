@@ -8,6 +8,7 @@ ghost use Rattle.ultra_adding.specs.Adding.{added};
 use refusals::Answer;
 use ultra_appending::raise_count;
 use ultra_format::FramebufferRecord;
+use ultra_layout::types;
 
 // Adds a memory map: an address, a size and a type for each entry.
 pub fn add_map(buf: &mut [u8], numbers: &[u64]) -> Answer
@@ -15,7 +16,7 @@ pub fn add_map(buf: &mut [u8], numbers: &[u64]) -> Answer
 {
     let number = ultra_arguments::map::check(numbers);
     let size = ultra_writing::map::size(numbers);
-    let answer = raise_count(buf, 3, number, size);
+    let answer = raise_count(buf, types::MEMORY_MAP, number, size);
     let Answer::Done(used) = answer else {
         return answer;
     };
@@ -29,7 +30,7 @@ pub fn add_command_line(buf: &mut [u8], text: &[u8]) -> Answer
 {
     let number = ultra_arguments::command_line::check(text);
     let size = ultra_writing::command_line::size(text);
-    let answer = raise_count(buf, 5, number, size);
+    let answer = raise_count(buf, types::COMMAND_LINE, number, size);
     let Answer::Done(used) = answer else {
         return answer;
     };
@@ -42,7 +43,7 @@ pub fn add_framebuffer(buf: &mut [u8], given: FramebufferRecord) -> Answer
     ensures { λ r. ⌜ (r, now (buf .exit)) ≡ added (now (buf .entry)) (Addition.addFramebuffer given) ⌝ }
 {
     let number = ultra_arguments::framebuffer::check(given);
-    let answer = raise_count(buf, 6, number, 32);
+    let answer = raise_count(buf, types::FRAMEBUFFER, number, 32);
     let Answer::Done(used) = answer else {
         return answer;
     };

@@ -6,6 +6,12 @@ ghost use Rattle.ultra_format.specs.Additions.{platformOf, kernelOf, mapOf, mod
 ghost use Rattle.ultra_adding.specs.Adding.{addedMembers};
 use refusals::Answer;
 use ultra_appending::raise_count;
+use ultra_layout::types;
+use ultra_layout::platform;
+use ultra_layout::kernel;
+use ultra_layout::module;
+use ultra_layout::map;
+use ultra_layout::entry;
 
 // Adds a platform; `complete` says that no member is absent.
 pub fn add_platform(
@@ -24,7 +30,7 @@ pub fn add_platform(
     ensures { λ r. ⌜ (r, now (buf .exit)) ≡ addedMembers (now (buf .entry)) complete (platformOf kind major minor (now (name .entry)) rsdp base depth dtb smbios) ⌝ }
 {
     let number = ultra_arguments::platform::check(complete, kind, name);
-    let answer = raise_count(buf, 1, number, 88);
+    let answer = raise_count(buf, types::PLATFORM, number, 88);
     let Answer::Done(used) = answer else {
         return answer;
     };
@@ -40,7 +46,7 @@ pub fn add_platform(
         dtb,
         smbios,
     );
-    Answer::Done(used + 88)
+    Answer::Done(used + platform::FULL_SIZE)
 }
 
 // Adds a kernel.
@@ -67,7 +73,7 @@ pub fn add_kernel(
         partition,
         path,
     );
-    let answer = raise_count(buf, 2, number, 336);
+    let answer = raise_count(buf, types::KERNEL, number, 336);
     let Answer::Done(used) = answer else {
         return answer;
     };
@@ -83,7 +89,7 @@ pub fn add_kernel(
         partition_index,
         path,
     );
-    Answer::Done(used + 336)
+    Answer::Done(used + kernel::LEAST_SIZE)
 }
 
 // Adds a memory map from bytes, "eight to a number": they are read where they lie.
@@ -91,8 +97,8 @@ pub fn add_map(buf: &mut [u8], entries: &[u8]) -> Answer
     ensures { λ r. ⌜ (r, now (buf .exit)) ≡ addedMembers (now (buf .entry)) (mapFormed (now (entries .entry))) (mapOf (now (entries .entry))) ⌝ }
 {
     let number = ultra_arguments::map::bytes_check(entries);
-    let size = 8 + entries.len() / 24 * 24;
-    let answer = raise_count(buf, 3, number, size);
+    let size = map::ENTRIES + entries.len() / entry::WIDTH * entry::WIDTH;
+    let answer = raise_count(buf, types::MEMORY_MAP, number, size);
     let Answer::Done(used) = answer else {
         return answer;
     };
@@ -105,10 +111,10 @@ pub fn add_module(buf: &mut [u8], kind: u32, name: &[u8], address: u64, size: u6
     ensures { λ r. ⌜ (r, now (buf .exit)) ≡ addedMembers (now (buf .entry)) true (moduleOf kind (now (name .entry)) address size) ⌝ }
 {
     let number = ultra_arguments::module::check(kind, name, address, size);
-    let answer = raise_count(buf, 4, number, 96);
+    let answer = raise_count(buf, types::MODULE, number, 96);
     let Answer::Done(used) = answer else {
         return answer;
     };
     ultra_writing::module::write(&mut buf[used as usize..], kind, name, address, size);
-    Answer::Done(used + 96)
+    Answer::Done(used + module::LEAST_SIZE)
 }

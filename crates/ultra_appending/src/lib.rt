@@ -8,6 +8,7 @@ ghost use Rattle.ultra_reading.specs.Reading.{usedLength};
 ghost use Rattle.ultra_appending.specs.Appending.{appendCheck, appendOffset, countRaised};
 use refusals::Answer;
 use refusals::Refusal;
+use ultra_layout::head;
 
 // The first of 17, 9 to 16 and 18 that an attribute of type `kind` and of `size` bytes breaks at the used length `used`, or 0; `given` is
 // the first of 12 to 16 that its members break by themselves, or 0.
@@ -16,7 +17,7 @@ fn check(buf: &[u8], used: u32, kind: u32, given: u16, size: usize) -> u16
     requires { ⌜ 1 ≤ kind ⌝ }
     ensures { λ r. ⌜ r ≡ appendCheck (typesBefore (now (buf .entry)) (storedCount (now (buf .entry)))) (roomOf (now (buf .entry))) used kind given size ⌝ }
 {
-    let count = words::load_u32(buf, 4);
+    let count = words::load_u32(buf, head::COUNT);
     if 1024 <= count {
         return refusals::FULL;
     }
@@ -60,7 +61,7 @@ pub fn raise_count(buf: &mut [u8], kind: u32, given: u16, size: usize) -> Answer
     let Answer::Done(_) = answer else {
         return answer;
     };
-    let count = words::load_u32(buf, 4);
-    words::store_u32(buf, 4, count + 1);
+    let count = words::load_u32(buf, head::COUNT);
+    words::store_u32(buf, head::COUNT, count + 1);
     answer
 }

@@ -3,6 +3,7 @@ ghost use mathlib.Core.Path.{_≡_};
 ghost use Rattle.ultra_format.specs.Additions.{Addition, mapOf, mapFormed, givenCheck, additionCheck};
 use ultra_layout::entry;
 
+// The first of 12 to 16 that the memory map given breaks, or 0.
 pub fn check(numbers: &[u64]) -> u16
     ensures { λ r. ⌜ r ≡ additionCheck (Addition.addMap (now (numbers .entry))) ⌝ }
 {

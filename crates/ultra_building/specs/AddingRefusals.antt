@@ -4,7 +4,6 @@
 -- the tests of Members on the members, which the rules ask too. Proved in proofs/AddingRefusals.antt: `adding-refuses`,
 -- `refused-add-keeps`, `adding-succeeds`, from these three `every-add` and `one-answer`, and `adding-in-digits`. Of a buffer only
 -- that its elements are bytes is assumed.
--- Assumes nothing else.
 -- A reader has to believe this file.
 use Prim.Native.Nat.{ℕ, _+_, _-_, _≤_, _<_}
 use mathlib.Core.Path.{_≡_}
@@ -13,6 +12,7 @@ use mathlib.Core.Logic.{_↔_, _⊎_}
 use mathlib.Core.List.{List, [], _∷_}
 use lib.ListN.{getD, replicate}
 use lib.Dec.{eqb}
+use Rattle.ultra_format.specs.Additions.{valuesGiven}
 use Rattle.byte_layout.specs.Stored.{Bytes}
 use Rattle.refusals.specs.Refusals.{PLACE, REPEAT, SPLIT, FORM, VALUE, TEXT, RANGE, ORDER, FULL, ROOM}
 use Rattle.refusals.specs.Answers.{numberOf, valueOf}
@@ -58,7 +58,7 @@ pub data AdditionBreaks (room : ℕ) (c : Context) (formed : Bool) (given : Body
   incomplete : (p : Platform) → given ≡ platform p → Incomplete p → AdditionBreaks room c formed given FORM
   -- "the member rules above": values, texts, ranges, map order. "A text given is refused as 14 if it holds a zero byte or leaves no place
   -- for its closing zero in a fixed field": no byte of a text is zero, and it is shorter than its field (Members, `texts`).
-  value : values given ≡ false → AdditionBreaks room c formed given VALUE
+  value : valuesGiven given ≡ false → AdditionBreaks room c formed given VALUE
   text : texts (writtenSize given) given ≡ false → AdditionBreaks room c formed given TEXT
   range : ranges given ≡ false → AdditionBreaks room c formed given RANGE
   order : ordered given ≡ false → AdditionBreaks room c formed given ORDER
@@ -112,8 +112,8 @@ EveryAdd =
 -- and only one of these: the table gives an add one answer
 abbrev pub OneAnswer : Type 0
 OneAnswer =
-    (b : List ℕ) (formed : Bool) (given : Body) (r : Refusal) → ((i : ℕ)
-    → getD b i 0 < 256) → AddRefused b formed given (numberOf (Refused r)) (valueOf (Refused r))
+    (b : List ℕ) (formed : Bool) (given : Body) (r : Refusal) → ((i : ℕ) → getD b i 0 < 256)
+    → AddRefused b formed given (numberOf (Refused r)) (valueOf (Refused r))
     → ((s : Refusal) → AddRefused b formed given (numberOf (Refused s)) (valueOf (Refused s)) → s ≡ r)
     × ((c : Context) → HoldsContext 0 b c → NoneBreaks (AdditionBreaks (roomOf b) c formed given) → ⊥)
 

@@ -1,5 +1,5 @@
 -- The number of a member that can be absent.
--- Serves proofs alone: no published contract or statement rests on it.
+-- Serves the library's own functions and proofs: no published contract or promise rests on it.
 use Prim.Native.Nat.{ℕ}
 use Rattle.ultra_format.specs.Contexts.{Member}
 use Rattle.ultra_format.specs.Contexts.{Member.present, Member.absent}

@@ -1,6 +1,6 @@
 -- Edits of a context that a buffer holds: other attributes in the place of some. Removing one, replacing one by another of its type, and
 -- adding one at the end are such edits. The statements are proved in proofs/Edits.antt and proofs/OneAttribute.antt.
--- Serves proofs alone: no published contract or statement rests on it.
+-- Serves the library's own functions and proofs: no published contract or promise rests on it.
 use Prim.Native.Nat.{ℕ, _+_, _-_, _≤_, _<_}
 use mathlib.Core.Path.{_≡_}
 use mathlib.Core.Logic.{_⊎_}

@@ -1,6 +1,6 @@
 -- 01's listing (crate ultra_format, specs/Examples.antt) without its map, and with another command line: the bytes written out, and what
 -- they hold. proofs/Examples.antt proves the statements.
--- Serves proofs alone: no published contract or statement rests on it.
+-- Serves the library's own functions and proofs: no published contract or promise rests on it.
 use Prim.Native.Nat.{ℕ}
 use mathlib.Core.Path.{_≡_}
 use mathlib.Core.List.{List, [], _∷_, _++_}

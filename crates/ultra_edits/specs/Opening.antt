@@ -1,6 +1,6 @@
 -- A context attribute by attribute: its bytes open a buffer just where its head and each of its attributes lie there. It is proved in
 -- proofs/Opening.antt.
--- Serves proofs alone: no published contract or statement rests on it.
+-- Serves the library's own functions and proofs: no published contract or promise rests on it.
 use Prim.Native.Nat.{ℕ, _<_}
 use mathlib.Core.Path.{_≡_}
 use mathlib.Core.Logic.{_↔_}

@@ -1,5 +1,5 @@
 -- Attributes that keep their order keep the rules of order. It is proved in proofs/Order.antt.
--- Serves proofs alone: no published contract or statement rests on it.
+-- Serves the library's own functions and proofs: no published contract or promise rests on it.
 use Prim.Native.Nat.{ℕ, _≤_, _<_}
 use mathlib.Core.Path.{_≡_}
 use Rattle.byte_layout.specs.Fields.{Fits}

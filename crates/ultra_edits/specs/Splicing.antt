@@ -1,6 +1,6 @@
 -- What an edit in the middle of a buffer leaves: other bytes in the place of some, and what follows moved after them. The laws are in
 -- proofs/Splices.antt.
--- Serves proofs alone: no published contract or statement rests on it.
+-- Serves the library's own functions and proofs: no published contract or promise rests on it.
 use Prim.Native.Nat.{ℕ, _+_}
 use mathlib.Core.List.{List, _++_}
 use lib.ListN.{length}

@@ -122,13 +122,13 @@ abbrev pub guidsFormed : List ℕ → List ℕ → Bool
 guidsFormed disk partition = eqb (length disk) 16 && eqb (length partition) 16
 
 -- ---- the first of 12 to 16 that is broken, or 0
--- of members given, formed or not: the rules of reading on the attribute that they become. "A platform record with an absent member is
--- refused as 12": its 88 bytes have space for every member (sizeSuits). "A text given is refused as 14 if it holds a zero byte or leaves
--- no place for its closing zero in a fixed field": no zero is a byte of a text, and a text is shorter than its field (texts).
--- Only the values could be judged otherwise than in reading (document 02, R-11); today they are not.
+-- what adding asks of the values, which document 02, R-11, has differ from reading; today they are the same
 abbrev pub valuesGiven : Body → Bool
 valuesGiven x = values x
 
+-- of members given, formed or not: the rules of reading on the attribute that they become. "A platform record with an absent member is
+-- refused as 12": its 88 bytes have space for every member (sizeSuits). "A text given is refused as 14 if it holds a zero byte or leaves
+-- no place for its closing zero in a fixed field": no zero is a byte of a text, and a text is shorter than its field (texts).
 unfoldable pub givenCheck : Bool → Body → ℕ
 givenCheck formed x =
     unless formed FORM (memberCheck (sizeSuits (writtenSize x) x) (valuesGiven x) (texts (writtenSize x) x) (ranges x) (ordered x))

@@ -1,5 +1,5 @@
 -- The sizes of document 01's table, for contracts: how many bytes an attribute of each type has at least, and a map's entry.
--- Serves proofs alone: no published contract or statement rests on it.
+-- Serves the library's own functions and proofs: no published contract or promise rests on it.
 use Prim.Native.Nat.{ℕ}
 
 abbrev pub platformSize : ℕ

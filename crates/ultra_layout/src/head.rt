@@ -4,7 +4,7 @@ ghost use Prim.Native.Nat.{_≤_};
 ghost use lib.ListN.{length};
 ghost use Rattle.ultra_format.specs.Decoding.{storedCount};
 
-pub const SIZE: usize = 8;
+pub const WIDTH: usize = 8;
 
 pub const COUNT: usize = 4;
 

@@ -3,7 +3,7 @@ ghost use mathlib.Core.Path.{_≡_};
 ghost use mathlib.Core.Bool.{true};
 ghost use Prim.Native.Nat.{_+_, _≤_};
 ghost use lib.ListN.{length};
-ghost use Rattle.key_value_text.specs.Lines.{putLines};
+ghost use Rattle.key_value_text.specs.LineOutput.{putLines};
 ghost use Rattle.ultra_format.specs.Members.{sizeSuits};
 ghost use Rattle.ultra_format.specs.Decoding.{decoded, storedCount, attributesFrom};
 ghost use Rattle.ultra_locating.specs.Passing.{Accepts};
@@ -43,7 +43,7 @@ pub fn all(out: &mut [u8], to: u32, buf: &[u8]) -> u32
 {
     let count = head::count(buf);
     let mut end = to;
-    let mut at = head::SIZE;
+    let mut at = head::WIDTH;
     let mut i = 0;
     while i < count {
         let kind = ultra_layout::attribute::kind(buf, at);

@@ -1,6 +1,6 @@
 // A whole listing: of an accepted context, and of a refused one.
 ghost use mathlib.Core.Path.{_≡_};
-ghost use Rattle.key_value_text.specs.Lines.{putLines};
+ghost use Rattle.key_value_text.specs.LineOutput.{putLines};
 ghost use Rattle.ultra_format.specs.Contexts.{used as used·of};
 ghost use Rattle.ultra_format.specs.Decoding.{contextOf};
 ghost use Rattle.ultra_locating.specs.Passing.{Accepts};

@@ -9,5 +9,5 @@ pub fn first_of_type(buf: &[u8], kind: u32) -> u32
     requires { ⌜ Accepts (now buf) ⌝ }
     ensures { λ r. ⌜ r ≡ foundStart (firstIn (ofType kind) (contextOf (now (buf .entry)))) ⌝ }
 {
-    ultra_stepping::first_of_type(buf, kind, words::load_u32(buf, 4)) as u32
+    ultra_stepping::first_of_type(buf, kind, words::load_u32(buf, ultra_layout::head::COUNT)) as u32
 }

@@ -7,6 +7,9 @@ ghost use Rattle.words.specs.Words.{u32At, numbersAt};
 ghost use Rattle.ultra_map_question.specs.MapQuestion.{mapCopied, mapCopiedBytes, entriesStored, noNumbers, mapNumbers};
 use refusals::Answer;
 use refusals::Refusal;
+use ultra_layout::attribute;
+use ultra_layout::map;
+use ultra_layout::types;
 
 // What the question answers, and where the numbers that it copies start and how many they are.
 struct MapNumbers {
@@ -32,7 +35,7 @@ fn entries_at(buf: &[u8], start: u32) -> u32
     requires { ⌜ (start + 8 ≤ length (now buf)) × (8 ≤ u32At (now buf) (start + 4)) ⌝ }
     ensures { λ r. ⌜ r ≡ entriesStored (now (buf .entry)) start ⌝ }
 {
-    (words::load_u32(buf, start as usize + 4) - 8) / 24
+    (words::load_u32(buf, start as usize + attribute::SIZE) - 8) / 24
 }
 
 // The answer alone, with nothing to copy.
@@ -54,7 +57,7 @@ fn map_numbers(buf: &[u8], capacity: usize) -> MapNumbers
     let Answer::Done(used) = answer else {
         return no_numbers(answer);
     };
-    let start = ultra_locating::first_of_type(buf, 3);
+    let start = ultra_locating::first_of_type(buf, types::MEMORY_MAP);
     if start == 0 {
         return no_numbers(Answer::Refused(Refusal::new(refusals::ABSENT, used)));
     }
@@ -65,7 +68,7 @@ fn map_numbers(buf: &[u8], capacity: usize) -> MapNumbers
     }
     MapNumbers {
         answer: Answer::Done(entries),
-        start: start as usize + 8,
+        start: start as usize + map::ENTRIES,
         count,
     }
 }

@@ -6,6 +6,7 @@ ghost use Rattle.ultra_format.specs.Contexts.{Body};
 ghost use Rattle.ultra_format.specs.Members.{bodyCheck};
 use ultra_layout::command_line;
 
+// The first of 12 to 16 that the command line in the `size` bytes from `at` on breaks, or 0.
 pub fn check(bytes: &[u8], at: usize, size: u32) -> u16
     requires { ⌜ at + size ≤ length (now bytes) ⌝ }
     ensures { λ r. ⌜ r ≡ bodyCheck size (Body.commandLine (textAt (now (bytes .entry)) (at + 8) (size - 8))) ⌝ }

@@ -7,6 +7,7 @@ ghost use Rattle.ultra_format.specs.Decoding.{entriesAt};
 use ultra_layout::entry;
 use ultra_layout::map;
 
+// The first of 12 to 16 that the memory map in the `size` bytes from `at` on breaks, or 0.
 pub fn check(bytes: &[u8], at: usize, size: u32) -> u16
     requires { ⌜ (at + size ≤ length (now bytes)) × (8 ≤ size) ⌝ }
     ensures { λ r. ⌜ r ≡ bodyCheck size (Body.memoryMap (entriesAt (now (bytes .entry)) (at + 8) ((size - 8) / 24))) ⌝ }

@@ -4,32 +4,33 @@ ghost use Prim.Native.Nat.{_≤_};
 ghost use Rattle.ultra_format.specs.Places.{placed, single, occurs, nearest, placeCheck};
 ghost use Rattle.ultra_format.specs.Decoding.{typesBefore};
 ghost use Rattle.ultra_stepping.specs.Walking.{InBounds};
+use ultra_layout::types;
 
 fn is_placed(index: u32, kind: u32) -> bool
     ensures { λ r. ⌜ r ≡ placed index kind ⌝ }
 {
     if index == 0 {
-        return kind == 1;
+        return kind == types::PLATFORM;
     }
     if index == 1 {
-        return kind == 2;
+        return kind == types::KERNEL;
     }
-    if kind == 1 {
+    if kind == types::PLATFORM {
         return false;
     }
-    kind != 2
+    kind != types::KERNEL
 }
 
 fn is_single(kind: u32) -> bool
     ensures { λ r. ⌜ r ≡ single kind ⌝ }
 {
-    if kind == 3 {
+    if kind == types::MEMORY_MAP {
         return true;
     }
-    if kind == 5 {
+    if kind == types::COMMAND_LINE {
         return true;
     }
-    kind == 6
+    kind == types::FRAMEBUFFER
 }
 
 // Whether one of the first `count` attributes is of type `kind`.
@@ -49,7 +50,7 @@ pub fn check(buf: &[u8], index: u32, previous: u32, kind: u32) -> u16
     if !is_placed(index, kind) {
         return refusals::PLACE;
     }
-    if kind < 3 {
+    if kind < types::MEMORY_MAP {
         return 0;
     }
     if is_single(kind) {

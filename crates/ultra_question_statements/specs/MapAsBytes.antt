@@ -1,7 +1,6 @@
 -- Statement: what copying the map out into bytes does to each byte of the output. A refusal changes none; success copies the bytes of the
 -- map's entries, as they stand in the buffer, to the front, and leaves what is after them. Proved in proofs/MapAsBytes.antt:
 -- `map-as-bytes`. Of the buffer and the output only that their elements are bytes is assumed.
--- Assumes nothing else.
 -- A reader has to believe this file.
 use Prim.Native.Nat.{ℕ, _+_, _*_}
 use mathlib.Core.Path.{_≡_}

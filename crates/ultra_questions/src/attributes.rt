@@ -7,6 +7,7 @@ use refusals::Answer;
 use refusals::Refusal;
 use ultra_format::Records;
 use ultra_reading::Header;
+use ultra_layout::head;
 
 // What the question answers: done, with the attribute's start, or the refusal; then its type, start and size, its members, and for a map
 // or a command line the part of the buffer that has its entries or its text.
@@ -25,7 +26,7 @@ pub fn attribute_start(buf: &[u8], index: u64) -> Answer
     let Answer::Done(used) = answer else {
         return answer;
     };
-    if words::load_u32(buf, 4) as u64 <= index {
+    if words::load_u32(buf, head::COUNT) as u64 <= index {
         return Answer::Refused(Refusal::new(refusals::COUNT, used));
     }
     Answer::Done(ultra_stepping::start_of(buf, index as u32) as u32)
@@ -58,7 +59,7 @@ pub fn attribute(buf: &[u8], index: u64) -> AttributeAnswer
         return unanswered(answer);
     };
     let kind = words::load_u32(buf, start as usize);
-    let size = words::load_u32(buf, start as usize + 4);
+    let size = words::load_u32(buf, start as usize + ultra_layout::attribute::SIZE);
     let records = ultra_records::records(buf, start as usize, size, kind);
     let part = crate::part::of_body(buf, start, size, kind);
     AttributeAnswer {

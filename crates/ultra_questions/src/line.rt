@@ -4,6 +4,8 @@ ghost use Rattle.ultra_questions.specs.Parts.{PartOf};
 ghost use Rattle.ultra_questions.specs.CommandLineQuestion.{commandLinePart};
 use crate::part::Part;
 use refusals::Answer;
+use ultra_layout::attribute;
+use ultra_layout::types;
 
 // Where the text is, and how long it is up to its zero; both 0 where there is none or the buffer is refused.
 pub fn command_line_part(buf: &[u8]) -> Part
@@ -13,12 +15,12 @@ pub fn command_line_part(buf: &[u8]) -> Part
     let Answer::Done(_) = answer else {
         return crate::part::none();
     };
-    let start = ultra_locating::first_of_type(buf, 5);
+    let start = ultra_locating::first_of_type(buf, types::COMMAND_LINE);
     if start == 0 {
         return crate::part::none();
     }
-    let size = words::load_u32(buf, start as usize + 4);
-    crate::part::of_body(buf, start, size, 5)
+    let size = words::load_u32(buf, start as usize + attribute::SIZE);
+    crate::part::of_body(buf, start, size, types::COMMAND_LINE)
 }
 
 // The text up to its zero, "handed back as that part of the buffer"; an empty part where there is none or the buffer is refused.

@@ -10,6 +10,10 @@ ghost use Rattle.ultra_locating.specs.Passing.{Accepts};
 ghost use Rattle.ultra_locating.specs.Searching.{firstIn, foundStart};
 ghost use Rattle.ultra_questions.specs.ModuleQuestion.{holding, moduleHolding};
 use refusals::Answer;
+use ultra_layout::attribute;
+use ultra_layout::head;
+use ultra_layout::module;
+use ultra_layout::types;
 
 // Whether the attribute in the `size` bytes from `at` on is a module that holds `address`.
 fn holds(buf: &[u8], at: usize, size: u32, address: u64) -> bool
@@ -17,12 +21,12 @@ fn holds(buf: &[u8], at: usize, size: u32, address: u64) -> bool
     requires { ⌜ sizeSuits size (decoded (now buf) at size (u32At (now buf) at)) ≡ true ⌝ }
     ensures { λ r. ⌜ r ≡ holding address (decoded (now (buf .entry)) at size (u32At (now (buf .entry)) at)) ⌝ }
 {
-    if words::load_u32(buf, at) != 4 {
+    if words::load_u32(buf, at) != types::MODULE {
         return false;
     }
     address_ranges::covers(
-        words::load_u64(buf, at + 80),
-        words::load_u64(buf, at + 88),
+        words::load_u64(buf, at + module::ADDRESS),
+        words::load_u64(buf, at + module::SIZE),
         address,
     )
 }
@@ -32,11 +36,11 @@ fn first_holding(buf: &[u8], address: u64) -> u32
     requires { ⌜ Accepts (now buf) ⌝ }
     ensures { λ r. ⌜ r ≡ foundStart (firstIn (holding address) (contextOf (now (buf .entry)))) ⌝ }
 {
-    let count = words::load_u32(buf, 4);
+    let count = words::load_u32(buf, head::COUNT);
     let mut at: u32 = 8;
     let mut i: u32 = 0;
     while i < count {
-        let size = words::load_u32(buf, at as usize + 4);
+        let size = words::load_u32(buf, at as usize + attribute::SIZE);
         if holds(buf, at as usize, size, address) {
             return at;
         }

@@ -6,6 +6,7 @@ ghost use lib.ListN.{length};
 ghost use Rattle.ultra_format.specs.Members.{sizeSuits};
 ghost use Rattle.ultra_format.specs.Decoding.{decoded};
 ghost use Rattle.ultra_questions.specs.Parts.{PartOf, noPart, bodyPart};
+use ultra_layout::types;
 
 // Where a part of the buffer starts, and how long it is.
 pub struct Part {
@@ -29,13 +30,13 @@ pub fn of_body(buf: &[u8], start: u32, size: u32, kind: u32) -> Part
     requires { ⌜ sizeSuits size (decoded (now buf) start size kind) ≡ true ⌝ }
     ensures { λ r. ⌜ r ≡ bodyPart start (decoded (now (buf .entry)) start size kind) ⌝ }
 {
-    if kind == 3 {
+    if kind == types::MEMORY_MAP {
         return Part {
             start: start + 8,
             length: size - 8,
         };
     }
-    if kind == 5 {
+    if kind == types::COMMAND_LINE {
         let length = byte_layout::text_length(buf, start as usize + 8, size as usize - 8);
         return Part {
             start: start + 8,

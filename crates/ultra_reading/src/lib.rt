@@ -30,7 +30,7 @@ pub fn used_length(buf: &[u8], fewest: u32) -> Answer
     if number != 0 {
         return Answer::Refused(Refusal::new(number, 0));
     }
-    let count = words::load_u32(buf, 4);
+    let count = words::load_u32(buf, ultra_layout::head::COUNT);
     walk::attributes(buf, room(buf), count)
 }
 

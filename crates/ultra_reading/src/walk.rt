@@ -8,6 +8,7 @@ ghost use Rattle.ultra_stepping.specs.Walking.{InBounds};
 ghost use Rattle.ultra_reading.specs.Reading.{highestOf, attributeCheck, attributesAnswer};
 use refusals::Answer;
 use refusals::Refusal;
+use ultra_layout::attribute;
 
 // The higher of two types.
 fn higher(a: u32, b: u32) -> u32
@@ -50,7 +51,7 @@ fn check(buf: &[u8], room: usize, index: u32, previous: u32, highest: u32, at: u
     if place != 0 {
         return place;
     }
-    ultra_members::body_check(buf, at, words::load_u32(buf, at + 4), kind)
+    ultra_members::body_check(buf, at, words::load_u32(buf, at + attribute::SIZE), kind)
 }
 
 // The first refusal of `count` attributes, or where they end.
@@ -69,7 +70,7 @@ pub fn attributes(buf: &[u8], room: usize, count: u32) -> Answer
         }
         previous = words::load_u32(buf, at);
         highest = higher(highest, previous);
-        at += words::load_u32(buf, at + 4) as usize;
+        at += words::load_u32(buf, at + attribute::SIZE) as usize;
         i += 1;
     }
     Answer::Done(at as u32)

@@ -1,5 +1,5 @@
 -- Going from attribute to attribute where they are known to break none of 5 to 8, and where a type is found first.
--- Serves proofs alone: no published contract or statement rests on it.
+-- Serves the library's own functions and proofs: no published contract or promise rests on it.
 use Prim.Native.Nat.{ℕ, zero, suc, _<_}
 use mathlib.Core.Path.{_≡_}
 use mathlib.Core.List.{List}

@@ -3,6 +3,7 @@ ghost use mathlib.Core.Path.{_≡_};
 ghost use Prim.Native.Nat.{_≤_};
 ghost use lib.ListN.{length};
 ghost use Rattle.ultra_stepping.specs.Checks.{boundsCheck};
+use ultra_layout::attribute;
 
 // The first of 5 to 8 that the attribute at `at` breaks, or 0.
 pub fn check(buf: &[u8], room: usize, at: usize) -> u16
@@ -12,7 +13,7 @@ pub fn check(buf: &[u8], room: usize, at: usize) -> u16
     if room < at + 8 {
         return refusals::HEADER;
     }
-    let size = words::load_u32(buf, at + 4);
+    let size = words::load_u32(buf, at + attribute::SIZE);
     if size < 8 {
         return refusals::SIZE;
     }

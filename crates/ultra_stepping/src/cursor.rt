@@ -2,6 +2,7 @@
 ghost use mathlib.Core.Path.{_≡_};
 ghost use Rattle.ultra_stepping.specs.Stepping.{cursorAt, cursorCheck, stepOf};
 use refusals::Refusal;
+use ultra_layout::attribute;
 
 // An attribute's type, start and size.
 pub struct Header {
@@ -56,7 +57,7 @@ impl Cursor {
         if head != 0 {
             return Step::Refused(Refusal::new(head, 0));
         }
-        if words::load_u32(buf, 4) <= index {
+        if words::load_u32(buf, ultra_layout::head::COUNT) <= index {
             return Step::End;
         }
         let number = check(buf, offset);
@@ -65,7 +66,7 @@ impl Cursor {
         }
         let at = offset as usize;
         let kind = words::load_u32(buf, at);
-        let size = words::load_u32(buf, at + 4);
+        let size = words::load_u32(buf, at + attribute::SIZE);
         Step::Attribute(
             Header {
                 kind,

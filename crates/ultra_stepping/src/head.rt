@@ -10,7 +10,7 @@ pub fn room(buf: &[u8]) -> usize
     if buf.len() < 65536 { buf.len() } else { 65536 }
 }
 
-// The first of 1 to 4 that the head breaks, or 0.
+// The first of 1 to 4 that the head breaks, or 0; `fewest` is the lower limit of the count.
 pub fn check(buf: &[u8], fewest: u32) -> u16
     ensures { λ r. ⌜ r ≡ headCheck fewest (now (buf .entry)) ⌝ }
 {
@@ -20,7 +20,7 @@ pub fn check(buf: &[u8], fewest: u32) -> u16
     if buf[0] == 0 {
         return refusals::VERSION;
     }
-    let count = words::load_u32(buf, 4);
+    let count = words::load_u32(buf, ultra_layout::head::COUNT);
     if 1024 < count {
         return refusals::COUNT;
     }

@@ -1,5 +1,5 @@
 -- The first fields of an attribute, as far as a helper of its writer goes.
--- Serves proofs alone: no published contract or statement rests on it.
+-- Serves the library's own functions and proofs: no published contract or promise rests on it.
 use Prim.Native.Nat.{ℕ}
 use mathlib.Core.List.{List, [], _∷_, _++_}
 use Rattle.byte_layout.specs.Fields.{Field}

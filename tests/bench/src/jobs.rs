@@ -74,7 +74,7 @@ pub struct Job<'a> {
     pub call: Call,
     pub input: &'a Input,
     /// What copying and building write to. Zeroed here and not again: what is written is
-    /// the same each time, and the bytes after decide nothing.
+    /// the same each time, and the bytes after it decide nothing.
     pub target: Buffer,
 }
 

@@ -2,7 +2,7 @@
 //! from the paper alone ("01", the build outline and its exact rules).
 //!
 //! [`calls`] has the thirteen calls in the shape they have toward C: lent bytes
-//! and numbers in, a single `u64` out. The modules after it go by subject:
+//! and numbers in, a single `u64` out. The modules under it go by subject:
 //! the [`format`] and its [`records`], [`reading`], [`stepping`],
 //! [`questions`] and [`building`]. [`mod@listing`] is what the listing program
 //! prints. [`generator`] makes the inputs of the drivers.

@@ -5,7 +5,7 @@ use native.Mathlib.Nat.{add-zero, sub-zero}
 use native.Mathlib.Omega.{arith}
 use lib.ListN.{length}
 use denote.Ref.{now}
-use Rattle.key_value_text.specs.Lines.{putLines}
+use Rattle.key_value_text.specs.LineOutput.{putLines}
 use Rattle.ultra_format.specs.Decoding.{entriesAt}
 use Rattle.listing_format.proofs.LineLaws.{range-next, range-end}
 use Rattle.listing_format.specs.Listing.{rangeLines}

@@ -8,7 +8,8 @@ use native.Mathlib.Omega.{arith}
 use lib.ListN.{length}
 use denote.Ref.{now}
 use Rattle.words.specs.Words.{u32At}
-use Rattle.key_value_text.specs.Lines.{Line, putLines}
+use Rattle.key_value_text.specs.Lines.{Line}
+use Rattle.key_value_text.specs.LineOutput.{putLines}
 use Rattle.ultra_format.specs.Decoding.{start, storedType, storedSize, attributesFrom}
 use Rattle.ultra_stepping.proofs.WalkLaws.{start-next}
 use Rattle.ultra_locating.proofs.Located.{Inside, head-inside, inside}

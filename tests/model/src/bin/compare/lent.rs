@@ -30,7 +30,7 @@ impl Lent {
         }
     }
 
-    /// Lends a copy of what is given. The guard after begins with `beyond`: what a reader
+    /// Lends a copy of what is given. The guard that follows begins with `beyond`: what a reader
     /// that goes too far would like to find.
     pub fn load(&mut self, given: &Given, beyond: &[u8]) {
         self.length = given.bytes.len();
