@@ -66,3 +66,13 @@ pub fn clear(out: &mut [u8], at: usize, n: usize)
         i += 1;
     }
 }
+
+// Bytes in their field of `width` bytes from `at` on, with zeros after them.
+pub fn store_padded(part: &mut [u8], at: usize, width: usize, bytes: &[u8])
+    requires { ⌜ (at + width ≤ length (now part)) × (length (now bytes) ≤ width) ⌝ }
+    ensures { λ _. ⌜ now (part .exit) ≡ replaced (now (part .entry)) at width (padded width (now (bytes .entry))) ⌝ }
+{
+    store(bytes, part, at);
+    let n = bytes.len();
+    clear(part, at + n, width - n);
+}

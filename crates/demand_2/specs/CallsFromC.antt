@@ -14,7 +14,7 @@ use Rattle.ultra_questions.specs.CommandLineQuestion.{commandLinePart}
 use Rattle.ultra_questions.specs.ModuleQuestion.{moduleHolding}
 use Rattle.ultra_adding.specs.Adding.{addedMembers}
 use Rattle.ultra_building.specs.Building.{begun}
-use Rattle.ultra.specs.Crossing.{answerCrossed, stepCrossed, readingCrossed, partCrossed, crossed}
+use Rattle.ultra_crossing.specs.Crossing.{answerCrossed, stepCrossed, readingCrossed, partCrossed, crossed}
 use Rattle.demand_2.specs.Calls.{Members.platformMembers, Members.kernelMembers, Members.mapMembers, Members.moduleMembers}
 use Rattle.demand_2.specs.Calls.{Write, Write.begin, Write.add, Write.addMembers}
 use Rattle.demand_2.specs.Calls.{Question, Question.read, Question.step, Question.askStart, Question.copyMapBytes, Question.locateLine, Question.askModule}

@@ -1,2 +1,1 @@
-pub mod Crossings
 pub mod Examples

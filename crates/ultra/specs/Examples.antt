@@ -15,7 +15,7 @@ use Rattle.ultra_questions.specs.AttributeQuestion.{attributeStart}
 use Rattle.ultra_questions.specs.CommandLineQuestion.{commandLinePart}
 use Rattle.ultra_map_question.specs.MapQuestion.{mapCopiedBytes}
 use Rattle.ultra_questions.specs.ModuleQuestion.{moduleHolding}
-use Rattle.ultra.specs.Crossing.{answerCrossed, stepCrossed, readingCrossed, partCrossed, crossed}
+use Rattle.ultra_crossing.specs.Crossing.{answerCrossed, stepCrossed, readingCrossed, partCrossed, crossed}
 
 -- "range=1048576,1048576,1" as three numbers of eight bytes
 abbrev pub rangeBytes : List ℕ

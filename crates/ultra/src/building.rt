@@ -5,9 +5,9 @@ ghost use Rattle.ultra_format.specs.Contexts.{Body};
 ghost use Rattle.ultra_format.specs.Additions.{platformOf, kernelOf, mapOf, moduleOf, framebufferOf, mapFormed, guidsFormed};
 ghost use Rattle.ultra_adding.specs.Adding.{addedMembers};
 ghost use Rattle.ultra_building.specs.Building.{begun};
-ghost use Rattle.ultra.specs.Crossing.{crossed};
-use crate::answers::of_answer;
+ghost use Rattle.ultra_crossing.specs.Crossing.{crossed};
 use ultra_building::members;
+use ultra_crossing::of_answer;
 use ultra_format::FramebufferRecord;
 
 #[no_mangle]

@@ -4,8 +4,8 @@ ghost use Rattle.ultra_questions.specs.AttributeQuestion.{attributeStart};
 ghost use Rattle.ultra_questions.specs.CommandLineQuestion.{commandLinePart};
 ghost use Rattle.ultra_map_question.specs.MapQuestion.{mapCopiedBytes};
 ghost use Rattle.ultra_questions.specs.ModuleQuestion.{moduleHolding};
-ghost use Rattle.ultra.specs.Crossing.{answerCrossed, partCrossed, crossed};
-use crate::answers::of_answer;
+ghost use Rattle.ultra_crossing.specs.Crossing.{answerCrossed, partCrossed, crossed};
+use ultra_crossing::of_answer;
 
 // "An attribute answers its start alone."
 #[no_mangle]
@@ -28,7 +28,7 @@ pub extern "C" fn ultra_copy_map(buf: &[u8], out: &mut [u8]) -> u64
 pub extern "C" fn ultra_command_line(buf: &[u8]) -> u64
     ensures { λ r. ⌜ r ≡ partCrossed (commandLinePart (now (buf .entry))) ⌝ }
 {
-    crate::answers::of_part(ultra_questions::command_line_part(buf))
+    ultra_crossing::of_part(ultra_questions::command_line_part(buf))
 }
 
 // The start of the first module that holds `address`, or 0.

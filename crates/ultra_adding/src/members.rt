@@ -6,12 +6,12 @@ ghost use Rattle.ultra_format.specs.Additions.{platformOf, kernelOf, mapOf, mod
 ghost use Rattle.ultra_adding.specs.Adding.{addedMembers};
 use refusals::Answer;
 use ultra_appending::raise_count;
-use ultra_layout::types;
-use ultra_layout::platform;
-use ultra_layout::kernel;
-use ultra_layout::module;
-use ultra_layout::map;
 use ultra_layout::entry;
+use ultra_layout::kernel;
+use ultra_layout::map;
+use ultra_layout::module;
+use ultra_layout::platform;
+use ultra_layout::types;
 
 // Adds a platform; `complete` says that no member is absent.
 pub fn add_platform(

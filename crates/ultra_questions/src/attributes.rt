@@ -6,8 +6,8 @@ use crate::part::Part;
 use refusals::Answer;
 use refusals::Refusal;
 use ultra_format::Records;
-use ultra_reading::Header;
 use ultra_layout::head;
+use ultra_reading::Header;
 
 // What the question answers: done, with the attribute's start, or the refusal; then its type, start and size, its members, and for a map
 // or a command line the part of the buffer that has its entries or its text.

@@ -21,5 +21,5 @@ pub fn write(part: &mut [u8], text: &[u8])
 {
     let whole = size(text);
     crate::header(part, types::COMMAND_LINE, whole as u32);
-    crate::store_padded(part, command_line::TEXT, whole - command_line::TEXT, text);
+    byte_layout::store_padded(part, command_line::TEXT, whole - command_line::TEXT, text);
 }

@@ -38,8 +38,8 @@ pub fn write(
     ensures { λ _. ⌜ now (part .exit) ≡ over (newBytes (kernelOf «physical_base» «virtual_base» size «partition_type» (now («disk_guid» .entry)) (now («partition_guid» .entry)) «disk_index» «partition_index» (now (path .entry)))) (now (part .entry)) ⌝ }
 {
     leading(part, physical_base, virtual_base, size, partition_type);
-    crate::store_padded(part, kernel::DISK_GUID, kernel::GUID_WIDTH, disk_guid);
-    crate::store_padded(
+    byte_layout::store_padded(part, kernel::DISK_GUID, kernel::GUID_WIDTH, disk_guid);
+    byte_layout::store_padded(
         part,
         kernel::PARTITION_GUID,
         kernel::GUID_WIDTH,
@@ -47,5 +47,5 @@ pub fn write(
     );
     words::store_u32(part, kernel::DISK_INDEX, disk_index);
     words::store_u32(part, kernel::PARTITION_INDEX, partition_index);
-    crate::store_padded(part, kernel::PATH, kernel::PATH_WIDTH, path);
+    byte_layout::store_padded(part, kernel::PATH, kernel::PATH_WIDTH, path);
 }

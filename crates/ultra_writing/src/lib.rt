@@ -9,10 +9,9 @@ pub mod module;
 pub mod platform;
 
 ghost use mathlib.Core.Path.{_≡_};
-ghost use Prim.Native.Nat.{_+_, _≤_};
+ghost use Prim.Native.Nat.{_≤_};
 ghost use lib.ListN.{length};
-ghost use Rattle.words.specs.Words.{replaced};
-ghost use Rattle.byte_layout.specs.Fields.{padded, cells, filled};
+ghost use Rattle.byte_layout.specs.Fields.{cells, filled};
 ghost use Rattle.byte_layout.specs.Stored.{over};
 ghost use Rattle.ultra_writing.specs.Leading.{headerFields};
 
@@ -23,14 +22,4 @@ fn header(part: &mut [u8], kind: u32, size: u32)
 {
     words::store_u32(part, 0, kind);
     words::store_u32(part, ultra_layout::attribute::SIZE, size);
-}
-
-// Bytes in their field of `width` bytes from `at` on, with zeros after them.
-fn store_padded(part: &mut [u8], at: usize, width: usize, bytes: &[u8])
-    requires { ⌜ (at + width ≤ length (now part)) × (length (now bytes) ≤ width) ⌝ }
-    ensures { λ _. ⌜ now (part .exit) ≡ replaced (now (part .entry)) at width (padded width (now (bytes .entry))) ⌝ }
-{
-    byte_layout::store(bytes, part, at);
-    let n = bytes.len();
-    byte_layout::clear(part, at + n, width - n);
 }

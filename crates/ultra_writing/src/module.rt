@@ -15,7 +15,7 @@ pub fn write(part: &mut [u8], kind: u32, name: &[u8], address: u64, size: u64)
     crate::header(part, types::MODULE, module::LEAST_SIZE);
     byte_layout::clear(part, module::RESERVED, module::RESERVED_WIDTH);
     words::store_u32(part, module::KIND, kind);
-    crate::store_padded(part, module::NAME, module::NAME_WIDTH, name);
+    byte_layout::store_padded(part, module::NAME, module::NAME_WIDTH, name);
     words::store_u64(part, module::ADDRESS, address);
     words::store_u64(part, module::SIZE, size);
 }

@@ -19,7 +19,7 @@ fn leading(part: &mut [u8], kind: u32, loader_major: u16, loader_minor: u16, nam
     words::store_u32(part, platform::KIND, kind);
     words::store_u16(part, platform::LOADER_MAJOR, loader_major);
     words::store_u16(part, platform::LOADER_MINOR, loader_minor);
-    crate::store_padded(part, platform::NAME, platform::NAME_WIDTH, name);
+    byte_layout::store_padded(part, platform::NAME, platform::NAME_WIDTH, name);
     words::store_u64(part, platform::RSDP, rsdp);
 }
 

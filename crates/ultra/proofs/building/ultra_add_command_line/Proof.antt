@@ -1,6 +1,6 @@
 -- `ultra::building::ultra_add_command_line` meets its contract: the answer of the call below, crossed.
 use Rattle.ultra_format.specs.Additions.{bodyGiven}
-use Rattle.ultra.proofs.Crossings.{crossing}
+use Rattle.ultra_crossing.proofs.Crossings.{crossing}
 use borrow.Author.Needs.{needs}
 use Rattle.ultra.proofs.building.ultra_add_command_line.Statement.{statement}
 use Rattle.ultra.proofs.building.ultra_add_command_line.Tie as tie

@@ -1,6 +1,6 @@
 -- `ultra::building::ultra_add_framebuffer` meets its contract: the answer of the call below, crossed.
 use Rattle.ultra_format.specs.Additions.{bodyGiven}
-use Rattle.ultra.proofs.Crossings.{crossing}
+use Rattle.ultra_crossing.proofs.Crossings.{crossing}
 use borrow.Author.Needs.{needs}
 use Rattle.ultra.proofs.building.ultra_add_framebuffer.Statement.{statement}
 use Rattle.ultra.proofs.building.ultra_add_framebuffer.Tie as tie

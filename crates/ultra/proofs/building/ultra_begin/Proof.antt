@@ -1,5 +1,5 @@
 -- `ultra::building::ultra_begin` meets its contract: the answer of the call below, crossed.
-use Rattle.ultra.proofs.Crossings.{crossing}
+use Rattle.ultra_crossing.proofs.Crossings.{crossing}
 use borrow.Author.Needs.{needs}
 use Rattle.ultra.proofs.building.ultra_begin.Statement.{statement}
 use Rattle.ultra.proofs.building.ultra_begin.Tie as tie

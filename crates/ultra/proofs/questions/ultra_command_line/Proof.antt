@@ -1,6 +1,6 @@
 -- `ultra::questions::ultra_command_line` meets its contract: the answer of the call below, crossed.
 use mathlib.Core.Path.{ap, _∙_}
-use Rattle.ultra.specs.Crossing.{partCrossed}
+use Rattle.ultra_crossing.specs.Crossing.{partCrossed}
 use borrow.Author.Needs.{needs}
 use Rattle.ultra.proofs.questions.ultra_command_line.Statement.{statement}
 use Rattle.ultra.proofs.questions.ultra_command_line.Tie as tie

@@ -1,5 +1,5 @@
 -- `ultra::questions::ultra_copy_map` meets its contract: the answer of the call below, crossed.
-use Rattle.ultra.proofs.Crossings.{crossing}
+use Rattle.ultra_crossing.proofs.Crossings.{crossing}
 use borrow.Author.Needs.{needs}
 use Rattle.ultra.proofs.questions.ultra_copy_map.Statement.{statement}
 use Rattle.ultra.proofs.questions.ultra_copy_map.Tie as tie

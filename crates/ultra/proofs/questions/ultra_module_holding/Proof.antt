@@ -1,6 +1,6 @@
 -- `ultra::questions::ultra_module_holding` meets its contract: the answer of the call below, crossed.
 use mathlib.Core.Path.{ap, _∙_}
-use Rattle.ultra.specs.Crossing.{answerCrossed}
+use Rattle.ultra_crossing.specs.Crossing.{answerCrossed}
 use borrow.Author.Needs.{needs}
 use Rattle.ultra.proofs.questions.ultra_module_holding.Statement.{statement}
 use Rattle.ultra.proofs.questions.ultra_module_holding.Tie as tie

@@ -1,6 +1,6 @@
 -- `ultra::reading::ultra_read` meets its contract: the answer of the call below, crossed.
 use mathlib.Core.Path.{ap, _∙_}
-use Rattle.ultra.specs.Crossing.{readingCrossed}
+use Rattle.ultra_crossing.specs.Crossing.{readingCrossed}
 use borrow.Author.Needs.{needs}
 use Rattle.ultra.proofs.reading.ultra_read.Statement.{statement}
 use Rattle.ultra.proofs.reading.ultra_read.Tie as tie

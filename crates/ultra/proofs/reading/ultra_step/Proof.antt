@@ -1,6 +1,6 @@
 -- `ultra::reading::ultra_step` meets its contract: the answer of the call below, crossed.
 use mathlib.Core.Path.{ap, _∙_}
-use Rattle.ultra.specs.Crossing.{stepCrossed}
+use Rattle.ultra_crossing.specs.Crossing.{stepCrossed}
 use borrow.Author.Needs.{needs}
 use Rattle.ultra.proofs.reading.ultra_step.Statement.{statement}
 use Rattle.ultra.proofs.reading.ultra_step.Tie as tie

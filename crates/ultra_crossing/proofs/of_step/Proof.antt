@@ -1,10 +1,10 @@
--- `ultra::answers::of_step` meets its contract, case by case.
+-- `of_step` meets its contract, case by case.
 use mathlib.Core.Path.{sym, ap, _∙_}
-use Rattle.ultra.specs.Crossing.{stepCrossed}
+use Rattle.ultra_crossing.specs.Crossing.{stepCrossed}
 use native.Mathlib.Nat.{zero-add}
 use borrow.Author.Needs.{needs}
-use Rattle.ultra.proofs.answers.of_step.Statement.{statement}
-use Rattle.ultra.proofs.answers.of_step.Tie as tie
+use Rattle.ultra_crossing.proofs.of_step.Statement.{statement}
+use Rattle.ultra_crossing.proofs.of_step.Tie as tie
 
 enum-known-step : tie.Need-enum-known-step
 enum-known-step c = search needs

@@ -1,10 +1,10 @@
--- `ultra::answers::of_answer` meets its contract, case by case.
+-- `of_answer` meets its contract, case by case.
 use mathlib.Core.Path.{sym, ap, _∙_}
-use Rattle.ultra.specs.Crossing.{answerCrossed}
+use Rattle.ultra_crossing.specs.Crossing.{answerCrossed}
 use native.Mathlib.Nat.{zero-add}
 use borrow.Author.Needs.{needs}
-use Rattle.ultra.proofs.answers.of_answer.Statement.{statement}
-use Rattle.ultra.proofs.answers.of_answer.Tie as tie
+use Rattle.ultra_crossing.proofs.of_answer.Statement.{statement}
+use Rattle.ultra_crossing.proofs.of_answer.Tie as tie
 
 enum-known-answer : tie.Need-enum-known-answer
 enum-known-answer c = search needs

@@ -1,10 +1,10 @@
--- `ultra::answers::of_reading` meets its contract, case by case.
+-- `of_reading` meets its contract, case by case.
 use mathlib.Core.Path.{sym, ap, _∙_}
-use Rattle.ultra.specs.Crossing.{readingCrossed}
+use Rattle.ultra_crossing.specs.Crossing.{readingCrossed}
 use native.Mathlib.Nat.{zero-add}
 use borrow.Author.Needs.{needs}
-use Rattle.ultra.proofs.answers.of_reading.Statement.{statement}
-use Rattle.ultra.proofs.answers.of_reading.Tie as tie
+use Rattle.ultra_crossing.proofs.of_reading.Statement.{statement}
+use Rattle.ultra_crossing.proofs.of_reading.Tie as tie
 
 enum-known-reading : tie.Need-enum-known-reading
 enum-known-reading c = search needs

@@ -2,10 +2,10 @@
 use Prim.Native.Nat.{_-_}
 use native.Mathlib.Omega.{arith}
 use lib.ListN.{length}
 use Rattle.byte_layout.proofs.Written.{padded-stored}
 use borrow.Author.Needs.{needs}
-use Rattle.ultra_writing.proofs.store_padded.Statement.{statement}
-use Rattle.ultra_writing.proofs.store_padded.Tie as tie
+use Rattle.byte_layout.proofs.store_padded.Statement.{statement}
+use Rattle.byte_layout.proofs.store_padded.Tie as tie
 
 returns : tie.Need-returns
 returns c =

@@ -1,6 +1,6 @@
 // Answers as one number.
 ghost use mathlib.Core.Path.{_≡_};
-ghost use Rattle.ultra.specs.Crossing.{numberAndValue, answerCrossed, stepCrossed, readingCrossed, partCrossed};
+ghost use Rattle.ultra_crossing.specs.Crossing.{numberAndValue, answerCrossed, stepCrossed, readingCrossed, partCrossed};
 use refusals::Answer;
 use refusals::Refusal;
 use ultra_questions::Part;
