@@ -110,7 +110,7 @@ stepIn room c k = pick (leb (count c) (k .index)) stepping.End (stepWithin room 
 abbrev pub partIn : Context → ℕ → Reply
 partIn c i = pick (ltb i (count c)) (lent (bodyPart (startIn (c .attributes) i) (bodyAt c i)) (partBytes (bodyAt c i))) (lent noPart [])
 
--- the first of the context c, the second where reading refuses the buffer with r
+-- what a question answers: first of a buffer that holds c, second of one that reading refuses with r
 unfoldable pub repliesIn : ℕ → Context → Refusal → Question → Reply × Reply
 repliesIn room c r read = (reading (readings.Accepted (versionIn c) (used c)), reading (readings.Refused r))
 repliesIn room c r (step k) = (stepped (stepIn room c k), stepped (stepping.Refused r))

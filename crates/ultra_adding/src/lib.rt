@@ -8,6 +8,7 @@ ghost use Rattle.ultra_adding.specs.Adding.{added};
 use refusals::Answer;
 use ultra_appending::raise_count;
 use ultra_format::FramebufferRecord;
+use ultra_layout::framebuffer;
 use ultra_layout::types;
 
 // Adds a memory map: an address, a size and a type for each entry.
@@ -43,10 +44,15 @@ pub fn add_framebuffer(buf: &mut [u8], given: FramebufferRecord) -> Answer
     ensures { λ r. ⌜ (r, now (buf .exit)) ≡ added (now (buf .entry)) (Addition.addFramebuffer given) ⌝ }
 {
     let number = ultra_arguments::framebuffer::check(given);
-    let answer = raise_count(buf, types::FRAMEBUFFER, number, 32);
+    let answer = raise_count(
+        buf,
+        types::FRAMEBUFFER,
+        number,
+        framebuffer::LEAST_SIZE as usize,
+    );
     let Answer::Done(used) = answer else {
         return answer;
     };
     ultra_writing::framebuffer::write(&mut buf[used as usize..], given);
-    Answer::Done(used + 32)
+    Answer::Done(used + framebuffer::LEAST_SIZE)
 }

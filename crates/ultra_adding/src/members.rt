@@ -30,7 +30,7 @@ pub fn add_platform(
     ensures { λ r. ⌜ (r, now (buf .exit)) ≡ addedMembers (now (buf .entry)) complete (platformOf kind major minor (now (name .entry)) rsdp base depth dtb smbios) ⌝ }
 {
     let number = ultra_arguments::platform::check(complete, kind, name);
-    let answer = raise_count(buf, types::PLATFORM, number, 88);
+    let answer = raise_count(buf, types::PLATFORM, number, platform::FULL_SIZE as usize);
     let Answer::Done(used) = answer else {
         return answer;
     };
@@ -73,7 +73,7 @@ pub fn add_kernel(
         partition,
         path,
     );
-    let answer = raise_count(buf, types::KERNEL, number, 336);
+    let answer = raise_count(buf, types::KERNEL, number, kernel::LEAST_SIZE as usize);
     let Answer::Done(used) = answer else {
         return answer;
     };
@@ -111,7 +111,7 @@ pub fn add_module(buf: &mut [u8], kind: u32, name: &[u8], address: u64, size: u6
     ensures { λ r. ⌜ (r, now (buf .exit)) ≡ addedMembers (now (buf .entry)) true (moduleOf kind (now (name .entry)) address size) ⌝ }
 {
     let number = ultra_arguments::module::check(kind, name, address, size);
-    let answer = raise_count(buf, types::MODULE, number, 96);
+    let answer = raise_count(buf, types::MODULE, number, module::LEAST_SIZE as usize);
     let Answer::Done(used) = answer else {
         return answer;
     };

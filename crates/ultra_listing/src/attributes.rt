@@ -19,7 +19,7 @@ fn attribute(out: &mut [u8], to: u32, buf: &[u8], at: usize, size: u32, kind: u3
     ensures { λ r. ⌜ (now (out .exit), r) ≡ putLines (now (out .entry), to) (bodyLines size (decoded (now (buf .entry)) at size kind)) ⌝ }
 {
     match kind {
-        types::PLATFORM => listing_lines::platform::write(out, to, buf, at, size),
+        types::PLATFORM => listing_platform::write(out, to, buf, at, size),
         types::KERNEL => listing_lines::kernel::write(out, to, buf, at),
         types::MEMORY_MAP => listing_lines::map::write(out, to, buf, at, size),
         types::MODULE => listing_lines::module::write(out, to, buf, at),

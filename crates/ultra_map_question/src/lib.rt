@@ -8,6 +8,7 @@ ghost use Rattle.ultra_map_question.specs.MapQuestion.{mapCopied, mapCop
 use refusals::Answer;
 use refusals::Refusal;
 use ultra_layout::attribute;
+use ultra_layout::entry;
 use ultra_layout::map;
 use ultra_layout::types;
 
@@ -35,7 +36,8 @@ fn entries_at(buf: &[u8], start: u32) -> u32
     requires { ⌜ (start + 8 ≤ length (now buf)) × (8 ≤ u32At (now buf) (start + 4)) ⌝ }
     ensures { λ r. ⌜ r ≡ entriesStored (now (buf .entry)) start ⌝ }
 {
-    (words::load_u32(buf, start as usize + attribute::SIZE) - 8) / 24
+    let size = words::load_u32(buf, start as usize + attribute::SIZE);
+    (size - map::ENTRIES as u32) / entry::WIDTH as u32
 }
 
 // The answer alone, with nothing to copy.

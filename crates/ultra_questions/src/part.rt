@@ -6,6 +6,8 @@ ghost use lib.ListN.{length};
 ghost use Rattle.ultra_format.specs.Members.{sizeSuits};
 ghost use Rattle.ultra_format.specs.Decoding.{decoded};
 ghost use Rattle.ultra_questions.specs.Parts.{PartOf, noPart, bodyPart};
+use ultra_layout::command_line;
+use ultra_layout::map;
 use ultra_layout::types;
 
 // Where a part of the buffer starts, and how long it is.
@@ -32,14 +34,18 @@ pub fn of_body(buf: &[u8], start: u32, size: u32, kind: u32) -> Part
 {
     if kind == types::MEMORY_MAP {
         return Part {
-            start: start + 8,
-            length: size - 8,
+            start: start + map::ENTRIES as u32,
+            length: size - map::ENTRIES as u32,
         };
     }
     if kind == types::COMMAND_LINE {
-        let length = byte_layout::text_length(buf, start as usize + 8, size as usize - 8);
+        let length = byte_layout::text_length(
+            buf,
+            start as usize + command_line::TEXT,
+            size as usize - command_line::TEXT,
+        );
         return Part {
-            start: start + 8,
+            start: start + command_line::TEXT as u32,
             length: length as u32,
         };
     }

@@ -1,4 +1,4 @@
-// The platform: type 1.
+// The lines of a platform, type 1, put into a lent output.
 ghost use mathlib.Core.Path.{_≡_};
 ghost use Prim.Native.Nat.{_+_, _≤_};
 ghost use lib.ListN.{length};
@@ -8,8 +8,8 @@ ghost use Rattle.key_value_text.specs.LineOutput.{putLines};
 ghost use Rattle.ultra_format.specs.Decoding.{memberAt, platformAt};
 ghost use Rattle.ultra_layout.specs.Sizes.{platformSize};
 ghost use Rattle.listing_format.specs.Listing.{member, leadingLines, platformLines};
-use crate::numbers::one;
-use crate::numbers::two;
+use listing_lines::numbers::one;
+use listing_lines::numbers::two;
 use ultra_layout::platform;
 
 // A member of eight bytes at `offset` in the attribute.

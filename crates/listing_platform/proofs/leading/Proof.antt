@@ -1,7 +1,7 @@
--- `platform::leading` meets its contract.
+-- `leading` meets its contract.
 use borrow.Author.Needs.{needs}
-use Rattle.listing_lines.proofs.platform.leading.Statement.{statement}
-use Rattle.listing_lines.proofs.platform.leading.Tie as tie
+use Rattle.listing_platform.proofs.leading.Statement.{statement}
+use Rattle.listing_platform.proofs.leading.Tie as tie
 
 returns : tie.Need-returns
 returns c =

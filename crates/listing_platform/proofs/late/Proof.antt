@@ -1,8 +1,8 @@
--- `platform::late` meets its contract.
+-- `late` meets its contract.
 use borrow.Author.Tests.{le-leb, lt-leb}
 use borrow.Author.Needs.{needs}
-use Rattle.listing_lines.proofs.platform.late.Statement.{statement}
-use Rattle.listing_lines.proofs.platform.late.Tie as tie
+use Rattle.listing_platform.proofs.late.Statement.{statement}
+use Rattle.listing_platform.proofs.late.Tie as tie
 
 returns : tie.Need-returns
 returns c =

@@ -1,7 +1,7 @@
--- `platform::write` meets its contract.
+-- `write` meets its contract.
 use borrow.Author.Needs.{needs}
-use Rattle.listing_lines.proofs.platform.write.Statement.{statement}
-use Rattle.listing_lines.proofs.platform.write.Tie as tie
+use Rattle.listing_platform.proofs.write.Statement.{statement}
+use Rattle.listing_platform.proofs.write.Tie as tie
 
 returns : tie.Need-returns
 returns c =

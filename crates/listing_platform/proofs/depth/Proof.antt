@@ -1,11 +1,11 @@
--- `platform::depth` meets its contract.
+-- `depth` meets its contract.
 use Prim.Native.Nat.{_+_}
 use native.Mathlib.Omega.{arith}
 use borrow.Author.Tests.{le-leb, lt-leb}
 use Rattle.listing_format.proofs.LineLaws.{byte-number}
 use borrow.Author.Needs.{needs}
-use Rattle.listing_lines.proofs.platform.depth.Statement.{statement}
-use Rattle.listing_lines.proofs.platform.depth.Tie as tie
+use Rattle.listing_platform.proofs.depth.Statement.{statement}
+use Rattle.listing_platform.proofs.depth.Tie as tie
 
 returns : tie.Need-returns
 returns c =
