@@ -15,7 +15,6 @@ use Rattle.key_value_text.specs.LineOutput.{putLines}
 use Rattle.key_value_text.proofs.LinePuts.{lines-append}
 use Rattle.ultra_format.specs.Contexts.{Body, Body.other, used}
 use Rattle.ultra_format.specs.Decoding.{decoded, entryAt, entriesAt, start, storedType, storedSize, storedCount, storedAttribute, attributesFrom, contextOf}
-use Rattle.ultra_format.specs.Members.{sizeSuits}
 use Rattle.ultra_format.proofs.Bodies.{Rowless, by-type}
 use Rattle.ultra_format.proofs.Decoded.{count-decoded}
 use Rattle.listing_format.specs.Listing.{commas, dotted, rangeLine, rangeLines, bodyLines, attributesLines, contextLines}
@@ -74,9 +73,6 @@ module _ (b : List ℕ) (n i : ℕ) where
 module _ (b : List ℕ) (i o s t : ℕ) (e : o ≡ start b i) (f : s ≡ storedSize b i) (g : t ≡ storedType b i) where
   pub lines-at : bodyLines s (decoded b o s t) ≡ bodyLines (storedSize b i) (storedAttribute b i .body)
   lines-at = rw (e, f, g)
-
-  pub suits-at : sizeSuits (storedSize b i) (storedAttribute b i .body) ≡ true → sizeSuits s (decoded b o s t) ≡ true
-  suits-at h = rw (e, f, g) h
 
 -- ---- a type without a row
 pub decoded-other : (b : List ℕ) (o s t : ℕ) → Rowless t → decoded b o s t ≡ other t

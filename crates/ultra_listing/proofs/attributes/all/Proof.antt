@@ -7,13 +7,11 @@ use native.Mathlib.Nat.{sub-zero}
 use native.Mathlib.Omega.{arith}
 use lib.ListN.{length}
 use denote.Ref.{now}
-use Rattle.words.specs.Words.{u32At}
 use Rattle.key_value_text.specs.Lines.{Line}
 use Rattle.key_value_text.specs.LineOutput.{putLines}
 use Rattle.ultra_format.specs.Decoding.{start, storedType, storedSize, attributesFrom}
-use Rattle.ultra_stepping.proofs.WalkLaws.{start-next}
-use Rattle.ultra_locating.proofs.Located.{Inside, head-inside, inside}
-use Rattle.listing_format.proofs.LineLaws.{lines-at, suits-at, attribute-next, attribute-end}
+use Rattle.ultra_locating.proofs.Located.{Loaded, head-inside, loaded}
+use Rattle.listing_format.proofs.LineLaws.{lines-at, attribute-next, attribute-end}
 use Rattle.listing_format.specs.Listing.{attributesLines}
 use borrow.Author.Needs.{needs}
 use Rattle.ultra_listing.proofs.attributes.all.Statement.{statement}
@@ -36,26 +34,24 @@ loop-holds : tie.Need-loop-holds Inv-loop μ-loop
 unfolding start
 loop-holds c = (refl, search needs, refl, rw sub-zero refl)
 
--- the attribute that the loop has come to is within its bounds
-here : (c : tie.In-loop Inv-loop μ-loop) → Inside (now (c .before .before .before .before .before .args .buf)) (c .before .loop .i)
+-- what is loaded where the loop has come to
+here : (c : tie.In-loop Inv-loop μ-loop) → Loaded (now (c .before .before .before .before .before .args .buf)) (c .before .loop .i) (c .before .loop .at)
 here c =
     let s = c .before .before .before .before .before in
-    inside (now (s .args .buf)) (s .pre) (c .before .loop .i) (omega (arith, c .before .before .count .ensures))
+    loaded (now (s .args .buf)) (s .pre) (c .before .loop .i) _ (omega (arith, c .before .before .count .ensures)) (c .before .loop .inv .0)
 
 kind-requires : tie.Need-kind-requires Inv-loop μ-loop
-kind-requires c κs = omega (arith, here c)
+kind-requires c κs = omega (arith, here c .reached)
 
 size-requires : tie.Need-size-requires Inv-loop μ-loop
-size-requires c κs = omega (arith, here (c .before))
+size-requires c κs = omega (arith, here (c .before) .reached)
 
 -- its type and its size are loaded
 kind : (c : tie.After-kind Inv-loop μ-loop) → c .kind .result ≡ storedType (now (c .before .before .before .before .before .before .args .buf)) (c .before .before .loop .i)
-kind c = c .kind .ensures ∙ ap (u32At (now (c .before .before .before .before .before .before .args .buf))) (c .before .before .loop .inv .0)
+kind c = c .kind .ensures ∙ here (c .before) .reached .type-is
 
 size : (c : tie.After-size Inv-loop μ-loop) → c .size .result ≡ storedSize (now (c .before .before .before .before .before .before .before .args .buf)) (c .before .before .before .loop .i)
-size c =
-    let l = c .before .before .before in
-    c .size .ensures ∙ ap (λ (o : ℕ). u32At (now (l .before .before .before .before .args .buf)) (o + 4)) (l .loop .inv .0)
+size c = c .size .ensures ∙ here (c .before .before) .reached .size-is
 
 attribute-requires : tie.Need-attribute-requires Inv-loop μ-loop
 attribute-requires c κs =
@@ -63,15 +59,15 @@ attribute-requires c κs =
     let l = z .before .before .before in
     let b = now (l .before .before .before .before .args .buf) in
     let h = here (z .before .before) in (
-      (omega (arith, h, size z, l .loop .inv .0), omega (arith, h, size z)),
-      suits-at b (l .loop .i) (l .loop .at) (z .size .result) (z .before .kind .result) (l .loop .inv .0) (size z) (kind (z .before)) (h .suits),
+      (omega (arith, h .reached, z .size .ensures), omega (arith, h .reached, z .size .ensures)),
+      rw (z .size .ensures, z .before .kind .ensures) (h .suits),
     )
 
 cast-at : tie.Need-cast-at Inv-loop μ-loop
-cast-at c = omega (arith, here (c .before .before .before .before .before .before), size (c .before .before .before .before))
+cast-at c = omega (arith, here (c .before .before .before .before .before .before) .reached, c .before .before .before .before .size .ensures)
 
 add-at : tie.Need-add-at Inv-loop μ-loop
-add-at c = omega (arith, here (c .before .before .before .before .before .before), size (c .before .before .before .before))
+add-at c = omega (arith, here (c .before .before .before .before .before .before) .reached, c .before .before .before .before .size .ensures)
 
 loop-again : tie.Need-loop-again Inv-loop μ-loop
 loop-again c =
@@ -80,7 +76,7 @@ loop-again c =
     let l = z .before .before .before in
     let b = now (l .before .before .before .before .args .buf) in
     let e = lines-at b (l .loop .i) (l .loop .at) (z .size .result) (z .before .kind .result) (l .loop .inv .0) (size z) (kind (z .before)) in (
-      omega (arith, size z, start-next b (l .loop .i)),
+      omega (arith, z .size .ensures, here (z .before .before) .reached .next),
       omega arith,
       p .attribute .kept .0 ∙ l .loop .inv .2,
       attribute-next b (l .before .count .result) (l .loop .i) _ _ (z .before .before .loop-test .taken)
