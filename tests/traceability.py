@@ -10,8 +10,8 @@ after `run in FILE` it is one of that file. The line `quoted` comes from the com
 hand.
 
 Exit 1, with a line for each problem, where a page is not as --write writes it, a name is nowhere or in several places or not of its
-label's kind, a name that is quoted is kept by hand too, a row has nothing but its sentence, a page has a sentence twice or says that it
-is still to do, a line is too long, or there are fewer than 100 rows.
+label's kind, a name that is quoted is kept by hand too, a row has nothing but its sentence, a label is none or stands below no sentence, a
+page has a sentence twice or says that it is still to do, a line is too long, or there are fewer than 100 rows.
 """
 
 import collections
@@ -80,7 +80,7 @@ def kind_of(label):
 def fill(text, indent=""):
     """The text in lines of WIDTH columns; no name in backticks is divided."""
     lines = [""]
-    for word in re.findall(r"(?:`[^`]*`|[^\s`])+", text):
+    for word in re.findall(r"(?:`[^`]*`|\S)+", text):
         if lines[-1].strip() and len(lines[-1]) + 1 + len(word) > WIDTH:
             lines.append(indent + word)
         else:
@@ -157,8 +157,9 @@ class Table:
             changed = [number for number, pair in enumerate(zip(lines, text.splitlines()), 1) if pair[0] != pair[1]]
             if self.text(name) != text:
                 found.append((name, (changed or [len(lines)])[0], "not as `make traceability` writes it"))
-        for page in self.pages:
+        for page, blocks in self.pages.items():
             found += [(page, number, "this sentence again") for number in repeated(self.rows_of(page))]
+            found += [(page, 1, f"below no sentence: {block}") for block in blocks if not is_row(block) and block.startswith("- ")]
         found += [("README.md", 1, problem) for problem in map(self.names.problem, example_names(self.text("README.md"))) if problem]
         if len(self.rows) < FEWEST_ROWS:
             found.append(("README.md", 1, f"{len(self.rows)} rows, fewer than {FEWEST_ROWS}"))

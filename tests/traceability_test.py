@@ -39,6 +39,10 @@ pub data Rules (b : List ℕ) : ℕ → Type 0 where
   short : roomOf b < 8 → Rules b SHORT
 
 unfoldable pub bothOf : ℕ
+
+-- "of a private one"
+other : ℕ
+pub another : ℕ
 """
 FILES = {
     "crates/rules/specs/Rules.antt": RULES,
@@ -175,7 +179,7 @@ class Quotes(Case):
         self.assertEqual(found, {
             "At the top": None, "major is at least 1": "Rules.Meets", "minor is free": "Rules.Meets",
             "the count is 2 to 1,024": "Rules.Meets.enough", "one of two": None, "two of two": None, "a section": None,
-            "within the definition": "Rules.roomOf"})
+            "within the definition": "Rules.roomOf", "of a private one": None})
 
     def test_the_rows_of_a_quote(self):
         sentences = ["7 TYPE .. type 0", "no type 0 at all.", "of type 0 or 1", "type 1 size 8"]
@@ -204,6 +208,7 @@ class Rows(Case):
 
     def test_nothing_but_a_sentence(self):
         self.assertEqual(self.problems(row("s"), row("t", "- note: x")), ["nothing but its sentence"])
+        self.assertEqual(self.problems('"not marked as a sentence"\n- note: x\n'), ["below no sentence: - note: x"])
 
     def test_quoted_by_hand_too(self):
         good = row("major is at least 1", "- stated: `Rules.roomOf`")
@@ -240,6 +245,10 @@ class Writing(Case):
         self.assertEqual(lines[:5], ["# A page", "", "Text.", "", '**"s"**'])
         self.assertEqual(lines[6:], ["  " + ", ".join(["`Rules.Meets.enough`"] * 3), "- run: `every.txt: used`", "- note: x", "", "## More"])
         self.assertLessEqual(max(map(len, lines)), traceability.WIDTH)
+
+    def test_nothing_is_lost(self):
+        text = "a `b c` (d), `e, f"
+        self.assertEqual(" ".join(traceability.fill(text)), text)
 
     def test_the_index_and_the_files(self):
         self.page(row("s", "- open: R-1"), row("t", "- run: `every.txt: used`"))
@@ -278,7 +287,7 @@ class Documents(Case):
         status, said = self.run_main(has)
         self.assertEqual(status, 0)
         self.assertIn("not quoted: . More.\n", said)
-        self.assertIn("101 rows on 2 pages, 0 open; 100 names, 0 of them from quotes in specs/; 8 quotes there, 8 of no row; 0 problems", said)
+        self.assertIn("101 rows on 2 pages, 0 open; 100 names, 0 of them from quotes in specs/; 9 quotes there, 9 of no row; 0 problems", said)
         self.assertEqual(self.run_main(self.write("lacks.txt", "sentence 1."))[0], 1)
 
 
