@@ -1,11 +1,20 @@
-# The table of what states, proves and runs each sentence of document 01. The Makefile at the root includes this.
+# What states, checks, proves and runs each sentence of the documents: docs/traceability/. The Makefile at the root includes this.
 #
-#   make test-traceability     the checker's own tests, and then docs/TRACEABILITY.md: every file and name in it is there
+#   make where WORD=4,096      the rows that have the word in their sentence or in a name, and the place of everything they name
+#   make traceability          write the pages anew, with what the comments of specs/ quote
+#   make test-traceability     the checker's own tests, and then the pages: every name on them stands in one place
 #
-# Whether its sentences are document 01's is seen with that document at hand: tests/traceability.py docs/TRACEABILITY.md DOCUMENT ..
+# Whether the sentences are the documents' is seen with those at hand: tests/traceability.py DOCUMENT ..
 
-.PHONY: test-traceability
+.PHONY: where traceability test-traceability
+
+where:
+	@test -n "$$WORD" || { echo 'usage: make where WORD=4,096 (a word of a sentence, or a name)' >&2; exit 2; }
+	@$(PYTHON) tests/traceability.py --where "$$WORD"
+
+traceability:
+	$(PYTHON) tests/traceability.py --write
 
 test-traceability:
 	$(PYTHON) tests/traceability_test.py
-	$(PYTHON) tests/traceability.py docs/TRACEABILITY.md
+	$(PYTHON) tests/traceability.py

@@ -1,212 +1,230 @@
 #!/usr/bin/env python3
-"""Checks docs/TRACEABILITY.md: every file and name that a row gives is there.
+"""Checks and writes docs/traceability/: what states, checks, proves and runs each sentence of the documents.
 
-usage: traceability.py TABLE [DOCUMENT ...]
+usage: traceability.py [DOCUMENT ...]   checks the pages; with documents, also that they have every sentence; lists what no row quotes
+       traceability.py --write          writes the pages anew: `quoted` lines, line ends, the index's table, FILES.md
+       traceability.py --where WORD     the rows that have the word in their sentence or as a name, and the place of each of their names
 
-A row is | "sentence" | definition | proved by | run by |. In the last three cells every backticked item is one of
+A row is **"sentence"** and lines `- label: text` below it, up to an empty line. Every name in backticks is a short name (short_names.py);
+after `run in FILE` it is one of that file. The line `quoted` comes from the comments of specs/ (spec_quotes.py); the others are kept by
+hand.
 
-    `path`          the path exists; it counts from the repository, which is the folder above the table's
-    `path#name`     and the file has that name
-    `#name`         in the file of the item before it in the same cell
-
-What a name is depends on the file: a definition, field or constructor (.antt; A.b is b of the record or data A), a function, type,
-constant or method (.rt, .rs; A.b is b of A), a function, macro, type or array (.c, .h), a function or constant (.py), a target (.mk,
-Makefile), a heading or the first cell of a row (.md), the beginning of a line (stdout, .txt).
-
-Exit 1, with a line for each problem, where an item is missing, a row has nothing but its sentence, a cell says that it is still to
-do, a sentence is there twice, or there are fewer than 100 rows. Where documents are given, every sentence has to be in one of them,
-cut only at " .. ", and what no row quotes is listed (it need not be a rule, so it is no problem).
+Exit 1, with a line for each problem, where a page is not as --write writes it, a name is nowhere or in several places or not of its
+label's kind, a name that is quoted is kept by hand too, a row has nothing but its sentence, a label is none or stands below no sentence, a
+page has a sentence twice or says that it is still to do, a line is too long, or there are fewer than 100 rows.
 """
 
+import collections
 import os
 import re
 import sys
 
+from short_names import Names, PROGRAM, read
+from spec_quotes import all_quotes, fold, names_by_sentence, quoted_in
+
 FEWEST_ROWS = 100
-CELLS = 4
+WIDTH, WIDEST = 140, 160
 UNFINISHED = "TODO"
-ITEM = re.compile(r"`([^`]*)`")
+LABELS = ("quoted", "stated", "checked", "proved", "run", "must fail", "note", "open")
+KINDS = {"checked": "src", "proved": "proofs", "must fail": "must-fail"}
+INDEX_HEAD = "| Page | Rows | Open |\n|---|---|---|\n"
+FILES_HEAD = "# The files that the rows name\n\nIn short, and where they are. Written by `make traceability`.\n\n"
+
+Row = collections.namedtuple("Row", "number sentence parts")
 
 
-# ---- The table ----
+# ---- Pages ----
 
 
-def split_cells(line):
-    """The cells of a row; a | in backticks or after a backslash divides nothing."""
-    parts = re.split(r"(`[^`]*`|\\\||\|)", line.strip())
-    cells, cell = [], ""
-    for part in parts:
-        if part == "|":
-            cells.append(cell.strip())
-            cell = ""
-        else:
-            cell += part
-    return cells[1:]
-
-
-def rows_of(lines):
-    """(line number, cells) of each row; a table's first line and the rule below it are none."""
-    numbered = list(enumerate(lines, 1))
-    rules = {number for number, line in numbered if re.fullmatch(r"\|[\s|:-]+\|", line.strip())}
-    skipped = rules | {number - 1 for number in rules}
-    return [(number, split_cells(line)) for number, line in numbered if line.startswith("|") and number not in skipped]
-
-
-def items_of(cell):
-    """(path, name or None) of each item of a cell."""
-    items, path = [], ""
-    for text in ITEM.findall(cell):
-        before, mark, name = text.partition("#")
-        path = before or path
-        items.append((path, name if mark else None))
-    return items
-
-
-def fold(text):
-    return " ".join(text.replace("**", "").split())
-
-
-def sentence_of(cell):
+def sentence_of(text):
     """The quoted sentence, without the quotation marks around it."""
-    return fold(cell).removeprefix('"').removesuffix('"')
+    return fold(text).removeprefix('"').removesuffix('"')
 
 
-# ---- Names ----
+def row_of(number, lines):
+    """A row of its lines, with (label, text) of each part."""
+    starts = [at for at, line in enumerate(lines) if line.startswith("- ")] + [len(lines)]
+    parts = [" ".join(lines[at:end])[2:].partition(":") for at, end in zip(starts, starts[1:])]
+    return Row(number, sentence_of(" ".join(lines[:starts[0]])), [(label, " ".join(text.split())) for label, _, text in parts])
 
 
-def block(text, opening):
-    """The lines after the one that the expression finds, as far as they are further in than it."""
-    lines = text.splitlines()
-    for at, line in enumerate(lines):
-        if re.match(opening, line):
-            indent = len(line) - len(line.lstrip())
-            inside = []
-            for later in lines[at + 1:]:
-                if later.strip() and len(later) - len(later.lstrip()) <= indent:
-                    break
-                inside.append(later)
-            return "\n".join(inside)
-    return ""
+def blocks_of(lines):
+    """The rows of a page, and its other lines as they are."""
+    blocks, at = [], 0
+    while at < len(lines):
+        end = at + 1
+        if lines[at].startswith('**"'):
+            while end < len(lines) and lines[end].strip():
+                end += 1
+            blocks.append(row_of(at + 1, lines[at:end]))
+        else:
+            blocks.append(lines[at])
+        at = end
+    return blocks
 
 
-def found(expression, text):
-    return re.search(expression, text, flags=re.MULTILINE) is not None
+def is_row(block):
+    return isinstance(block, Row)
 
 
-def in_antt(name, text):
-    owner, dot, member = name.rpartition(".")
-    if dot:
-        inside = block(text, rf"\s*(?:pub )?(?:record|data) {re.escape(owner)}(?=\s)")
-        return found(rf"^\s+(?:pub )?{re.escape(member)} :", inside)
-    plain = re.escape(name)
-    return found(rf"^\s*(?:[a-z]+ )*{plain} :", text) or found(rf"^\s*(?:pub )?(?:record|data) {plain}(?=\s)", text)
+def names_of(label, text):
+    """The short names of a part."""
+    file = label.removeprefix("run in ") + ": " if label.startswith("run in ") else ""
+    return [file + name for name in re.findall(r"`([^`]*)`", text)]
 
 
-RUST_NAME = r"^\s*(?:pub(?:\(\w+\))? )?(?:extern \"C\" )?(?:const )?(?:unsafe )?(?:fn|struct|enum|const|mod|trait|type) "
+def kind_of(label):
+    return "run" if label.startswith("run in ") else label
 
 
-def in_rust(name, text):
-    owner, dot, member = name.rpartition(".")
-    if not dot:
-        return found(RUST_NAME + re.escape(name) + r"\b", text)
-    plain, inner = re.escape(owner), re.escape(member)
-    inside = block(text, rf"\s*(?:pub )?(?:struct|enum) {plain}\b") + "\n" + block(text, rf"\s*impl(?:<[^>]*>)? {plain}\b")
-    return found(RUST_NAME + inner + r"\b", inside) or found(rf"^\s*(?:pub )?{inner}\s*[:,(]", inside)
+def fill(text, indent=""):
+    """The text in lines of WIDTH columns; no name in backticks is divided."""
+    lines = [""]
+    for word in re.findall(r"(?:`[^`]*`|\S)+", text):
+        if lines[-1].strip() and len(lines[-1]) + 1 + len(word) > WIDTH:
+            lines.append(indent + word)
+        else:
+            lines[-1] += " " + word if lines[-1] else word
+    return lines
 
 
-def in_c(name, text):
-    plain = re.escape(name)
-    return (found(rf"^(?:[A-Za-z_][\w \t*]*[ \t*])?{plain}\s*[(\[]", text) or found(rf"^#define {plain}\b", text)
-            or found(rf"^(?:struct|enum|union) {plain}\b", text))
+def with_quotes(row, quoted):
+    """The row with the `quoted` part that it has to have, its parts in the order of their labels."""
+    parts = [part for part in row.parts if part[0] != "quoted"]
+    if quoted:
+        parts.append(("quoted", ", ".join(f"`{name}`" for name in quoted)))
+    order = {label: place for place, label in enumerate(LABELS)}
+    return row._replace(parts=sorted(parts, key=lambda part: order.get(kind_of(part[0]), len(order))))
 
 
-def in_python(name, text):
-    plain = re.escape(name)
-    return found(rf"^\s*(?:def|class) {plain}\b", text) or found(rf"^{plain} =", text)
+def row_written(row):
+    return fill(f'**"{row.sentence}"**') + [line for label, text in row.parts for line in fill(f"- {label}: {text}", "  ")]
 
 
-def in_make(name, text):
-    return found(rf"^(?![.])(?:[^\s:=#]+ )*{re.escape(name)}(?: [^\s:=#]+)*:(?!=)", text)
+class Table:
+    """All pages of a repository, with what the comments of its specs quote."""
+
+    def __init__(self, root):
+        self.root, self.folder = root, os.path.join(root, "docs", "traceability")
+        self.names = Names(root)
+        names = sorted(name for name in os.listdir(self.folder) if name.endswith(".md") and name not in ("README.md", "FILES.md"))
+        pages = {name: blocks_of(self.text(name).splitlines()) for name in names}
+        self.quotes = all_quotes(self.names)
+        self.quoted = names_by_sentence(self.quotes, [block.sentence for blocks in pages.values() for block in blocks if is_row(block)])
+        self.pages = {name: [with_quotes(block, self.quoted.get(block.sentence)) if is_row(block) else block for block in blocks]
+                      for name, blocks in pages.items()}
+        self.rows = [(name, row) for name in self.pages for row in self.rows_of(name)]
+
+    def text(self, name):
+        path = os.path.join(self.folder, name)
+        return read(path) if os.path.exists(path) else ""
+
+    def rows_of(self, page):
+        return [block for block in self.pages[page] if is_row(block)]
+
+    def items(self):
+        """(page, row, label, name) of each name that a row gives."""
+        return [(page, row, label, name) for page, row in self.rows for label, text in row.parts for name in names_of(label, text)]
+
+    # ---- Writing ----
+
+    def written(self):
+        """(name, text) of each file as it has to be."""
+        for page, blocks in self.pages.items():
+            lines = [row_written(block) if is_row(block) else [block] for block in blocks]
+            yield page, "".join(line + "\n" for block in lines for line in block)
+        before, head, after = self.text("README.md").partition(INDEX_HEAD)
+        yield "README.md", before + INDEX_HEAD + "".join(map(self.index_line, self.pages)) + re.sub(r"\A(?:\|.*\n)*", "", after)
+        yield "FILES.md", FILES_HEAD + "".join(f"- [{short}](../../{path})\n" for short, path in self.files())
+
+    def index_line(self, page):
+        rows = self.rows_of(page)
+        title = next((block.removeprefix("# ") for block in self.pages[page] if not is_row(block)), page)
+        return f"| [{title}]({page}) | {len(rows)} | {sum(is_open(row) for row in rows) or '-'} |\n"
+
+    def files(self):
+        """(short, path) of each file that a row names."""
+        paths = {path for *_, name in self.items() for path, _ in self.names.places(name)}
+        return sorted((self.names.short_of(path), path) for path in paths)
+
+    # ---- Problems: (file, line number, problem) ----
+
+    def problems(self):
+        found = [(page, row.number, problem) for page, row in self.rows for problem in self.row_problems(row)]
+        for name, text in self.written():
+            lines = self.text(name).splitlines()
+            found += [(name, number, problem) for number, problem in line_problems(lines)]
+            changed = [number for number, pair in enumerate(zip(lines, text.splitlines()), 1) if pair[0] != pair[1]]
+            if self.text(name) != text:
+                found.append((name, (changed or [len(lines)])[0], "not as `make traceability` writes it"))
+        for page, blocks in self.pages.items():
+            found += [(page, number, "this sentence again") for number in repeated(self.rows_of(page))]
+            found += [(page, 1, f"below no sentence: {block}") for block in blocks if not is_row(block) and block.startswith("- ")]
+        found += [("README.md", 1, problem) for problem in map(self.names.problem, example_names(self.text("README.md"))) if problem]
+        if len(self.rows) < FEWEST_ROWS:
+            found.append(("README.md", 1, f"{len(self.rows)} rows, fewer than {FEWEST_ROWS}"))
+        return sorted(found)
+
+    def row_problems(self, row):
+        unknown = [f"no label {label!r}" for label, _ in row.parts if kind_of(label) not in LABELS]
+        unknown += [f"nothing after {label!r}" for label, text in row.parts if not text]
+        named = [problem for label, text in row.parts for name in names_of(label, text)
+                 for problem in self.name_problems(label, name, self.quoted.get(row.sentence, []))]
+        return unknown + named + ([] if row.parts else ["nothing but its sentence"])
+
+    def name_problems(self, label, name, quoted):
+        problem = self.names.problem(name)
+        if problem:
+            return [problem]
+        if name in quoted and label == "stated":
+            return [f"`{name}` is quoted already"]
+        path = self.names.places(name)[0][0]
+        folder = KINDS.get(label)
+        return [f"`{name}` is in {path}, not in a crate's {folder}"] if folder and not re.match(rf"crates/\w+/{folder}\b", path) else []
+
+    # ---- Looking up ----
+
+    def where(self, word):
+        """The lines that say where a word or name is."""
+        told = [f"{word}: {path}:{number}" for path, number in self.names.places(word)]
+        for page, row in self.rows:
+            items = [(label, name) for label, text in row.parts for name in names_of(label, text)]
+            if any(word.lower() in text.lower() for text in [row.sentence, *(name for _, name in items)]):
+                told.append(f'docs/traceability/{page}:{row.number}: "{row.sentence}"')
+                told += [f"  {kind_of(label):<9} {name:<50} {self.place(name)}" for label, name in items]
+        return told
+
+    def place(self, name):
+        """The place of a name; of a function also its proof, if one was written."""
+        path, number = (self.names.places(name) or [("nowhere", 0)])[0]
+        program = PROGRAM.fullmatch(path)
+        proof = f"crates/{program[1]}/proofs/{'/'.join(name.split('::')[1:])}/Proof.antt" if program else ""
+        return f"{path}:{number}" + (f", proof: {proof}" if proof in self.names.paths else "")
 
 
-def in_markdown(name, text):
-    return found(rf"^#+ {re.escape(name)}$", text) or found(rf"^\| *{re.escape(name)} *\|", text)
+def example_names(text):
+    """The names of the index: those of the rows that are set in, and those that begin a table's row."""
+    examples = [block for block in blocks_of([line.removeprefix("    ") for line in text.splitlines()]) if is_row(block)]
+    explained = [("", cell) for cell in re.findall(r"^\| (`.+?`) \|", text, flags=re.MULTILINE)]
+    return [name for label, part in [part for row in examples for part in row.parts] + explained for name in names_of(label, part)]
 
 
-def in_output(name, text):
-    return found(rf"^{re.escape(name)}(?!\w)", text)
+def is_open(row):
+    return any(label == "open" for label, _ in row.parts)
 
 
-READERS = {".antt": in_antt, ".rt": in_rust, ".rs": in_rust, ".c": in_c, ".h": in_c, ".py": in_python, ".mk": in_make, ".md": in_markdown,
-           ".txt": in_output}
-
-
-def reader_of(path):
-    base = os.path.basename(path)
-    if base == "stdout":
-        return in_output
-    if base == "Makefile":
-        return in_make
-    return READERS.get(os.path.splitext(base)[1])
-
-
-def read(path):
-    with open(path, encoding="utf-8") as file:
-        return file.read()
-
-
-def item_problem(root, path, name):
-    """What is wrong with an item, or None."""
-    if not path:
-        return f"`#{name}` has no file before it"
-    if os.path.isabs(path) or ".." in path.split("/"):
-        return f"{path} is not a path in the repository"
-    place = os.path.join(root, path)
-    if not os.path.exists(place):
-        return f"{path} does not exist"
-    if name is None:
-        return None
-    reader = reader_of(path)
-    if reader is None or not os.path.isfile(place):
-        return f"{path} is no file with names"
-    return None if name and reader(name, read(place)) else f"{path} has no {name!r}"
-
-
-# ---- Rows ----
-
-
-def row_problems(root, cells):
-    if len(cells) != CELLS:
-        return [f"{len(cells)} cells, not {CELLS}"]
-    if not re.fullmatch(r'".+"', cells[0]):
-        return ["the sentence is not in quotation marks"]
-    if not any(cell.strip("- ") for cell in cells[1:]):
-        return ["nothing but its sentence"]
-    items = [item for cell in cells[1:] for item in items_of(cell)]
-    problems = [item_problem(root, path, name) for path, name in items]
-    return [problem for problem in problems if problem]
+def line_problems(lines):
+    for number, line in enumerate(lines, 1):
+        if UNFINISHED in line:
+            yield number, f"says {UNFINISHED}"
+        if len(line) > WIDEST:
+            yield number, f"{len(line)} columns, more than {WIDEST}"
 
 
 def repeated(rows):
-    """(line number, problem) of each sentence that an earlier row has."""
-    first, problems = {}, []
-    for number, cells in rows:
-        sentence = sentence_of(cells[0]) if cells else ""
-        if sentence in first:
-            problems.append((number, f"the sentence of line {first[sentence]} again"))
-        first.setdefault(sentence, number)
-    return problems
-
-
-def table_problems(root, lines):
-    """(line number, problem) of a whole table."""
-    rows = rows_of(lines)
-    problems = [(number, f"says {UNFINISHED}") for number, line in enumerate(lines, 1) if UNFINISHED in line]
-    problems += [(number, problem) for number, cells in rows for problem in row_problems(root, cells)]
-    problems += repeated(rows)
-    if len(rows) < FEWEST_ROWS:
-        problems.append((len(lines), f"{len(rows)} rows, fewer than {FEWEST_ROWS}"))
-    return sorted(problems)
+    """The line number of each row whose sentence an earlier one has."""
+    sentences = [row.sentence for row in rows]
+    return [row.number for at, row in enumerate(rows) if row.sentence in sentences[:at]]
 
 
 # ---- The documents that are quoted ----
@@ -225,17 +243,16 @@ def place_of(sentence, document):
 
 
 def quote_problems(rows, documents):
-    """(line number, problem) of each sentence that no document has."""
-    sentences = [(number, sentence_of(cells[0])) for number, cells in rows if cells]
-    return [(number, "no document has this sentence") for number, sentence in sentences
-            if not any(place_of(sentence, document) for document in documents)]
+    """(page, line number, problem) of each sentence that no document has."""
+    return [(page, row.number, "no document has this sentence") for page, row in rows
+            if not any(place_of(row.sentence, document) for document in documents)]
 
 
 def unquoted(rows, document):
     """The parts of a document that no sentence quotes."""
     covered = bytearray(len(document))
-    for _, cells in rows:
-        place = place_of(sentence_of(cells[0]), document) if cells else None
+    for _, row in rows:
+        place = place_of(row.sentence, document)
         if place:
             covered[place[0]:place[1]] = b"\1" * (place[1] - place[0])
     parts = re.split("\0+", "".join("\0" if mark else letter for letter, mark in zip(document, covered)))
@@ -245,24 +262,44 @@ def unquoted(rows, document):
 # ---- The program ----
 
 
-def main(arguments):
-    if not arguments:
+def write(table):
+    for name, text in table.written():
+        with open(os.path.join(table.folder, name), "w", encoding="utf-8") as file:
+            file.write(text)
+
+
+def check(table, paths):
+    documents = [fold(read(path)) for path in paths]
+    problems = table.problems() + (quote_problems(table.rows, documents) if documents else [])
+    for name, number, problem in problems:
+        print(f"docs/traceability/{name}:{number}: {problem}")
+    for document in documents:
+        for part in unquoted(table.rows, document):
+            print(f"not quoted: {part}")
+    sentences = [row.sentence for _, row in table.rows]
+    strays = sum(not quoted_in(quote.text, sentences) for quote in table.quotes)
+    items = table.items()
+    generated = [label for *_, label, _ in items if label == "quoted"]
+    print(f"traceability: {len(table.rows)} rows on {len(table.pages)} pages, {sum(is_open(row) for _, row in table.rows)} open; "
+          f"{len(items)} names, {len(generated)} of them from quotes in specs/; {len(table.quotes)} quotes there, {strays} of no row; "
+          f"{len(problems)} problems")
+    return 1 if problems else 0
+
+
+def main(arguments, root=os.path.dirname(os.path.dirname(os.path.abspath(__file__)))):
+    table = Table(root)
+    if arguments[:1] == ["--write"]:
+        write(table)
+    elif arguments[:1] == ["--where"] and len(arguments) == 2 and arguments[1]:
+        told = table.where(arguments[1])
+        print("\n".join(told) if told else f"no sentence and no name has {arguments[1]!r}")
+        return 0 if told else 1
+    elif arguments[:1] and arguments[0].startswith("--"):
         print(__doc__, file=sys.stderr)
         return 2
-    table, *paths = arguments
-    root = os.path.dirname(os.path.dirname(os.path.abspath(table)))
-    lines = read(table).splitlines()
-    rows = rows_of(lines)
-    documents = [fold(read(path)) for path in paths]
-    problems = table_problems(root, lines) + (quote_problems(rows, documents) if documents else [])
-    for number, problem in problems:
-        print(f"{table}:{number}: {problem}")
-    for document in documents:
-        for part in unquoted(rows, document):
-            print(f"not quoted: {part}")
-    items = sum(len(items_of(cell)) for _, cells in rows for cell in cells[1:])
-    print(f"traceability: {len(rows)} rows, {items} items, {len(problems)} problems")
-    return 1 if problems else 0
+    else:
+        return check(table, arguments)
+    return 0
 
 
 if __name__ == "__main__":
