@@ -92,8 +92,8 @@ rust() {
         found cargo "$of_cargo"
         return
     fi
-    note "cargo has to come with Rust $wanted or newer. Debian package: cargo; that of Debian 12 and 13 is older, so get it from
-https://rustup.rs there."
+    note "cargo has to come with Rust $wanted or newer. Debian package: cargo; that of Debian 12 and 13 is older,
+so get it from https://rustup.rs there."
 }
 
 # The kit. Another one than kit.txt names is let pass with a warning.
@@ -110,8 +110,9 @@ kit() {
 The proofs decide: where they pass, it will do." >&2
         return
     fi
-    note "rt proves and compiles what is here. It is part of the Rattle kit, \`$wanted\`, and in no Debian package. To go on, put the
-kit's folder bin/ on the PATH (export PATH=KIT/bin:\$PATH) and try \`rt version\`. Without it, what only reads works: make help, make figures."
+    note "rt proves and compiles what is here. It is part of the Rattle kit (\`$wanted\`), no Debian package.
+To go on, put the kit's folder bin/ on the PATH: export PATH=KIT/bin:\$PATH; then \`rt version\` prints that line.
+Without it there is what only reads: make help, make figures."
 }
 
 check() { # NAME
