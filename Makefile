@@ -22,14 +22,14 @@ help:
 	@echo '  make compare N=..         every call beside the independent implementation, on N inputs'
 	@echo '  make fuzz SECONDS=..      the archive under libFuzzer'
 	@echo '  make bench                the speed of the archive'
-	@echo '  make wrong-programs       the wrong programs that the prover has to refuse'
-	@echo '  make traceability         what states, proves and runs each sentence of document 01'
+	@echo '  make where WORD=..        what states, proves and runs the sentences of document 01 that have a word'
 	@echo '  make figures              how much there is of code, statements, proofs and tests'
 	@echo 'Change it'
-	@echo '  make where WORD=..        the files that a word stands in'
 	@echo '  make check                prove what has changed'
 	@echo '  make format               lay the sources out'
 	@echo '  make samples              write the samples anew'
+	@echo '  make traceability         write docs/traceability anew'
+	@echo '  make wrong-programs       write docs/WRONG_PROGRAMS.md anew'
 
 include tests/tests.mk
 include tests/samples.mk

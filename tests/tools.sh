@@ -73,13 +73,14 @@ at_least() { # LINE WANTED
 # The Rust that tests/model/Cargo.toml asks for.
 rust_wanted() {
     while IFS= read -r line; do
-        case $line in rust-version*) line=${line#*\"} && printf '%s\n' "${line%%\"*}" ;; esac
+        case $line in 'rust-version = "'*) line=${line#*\"} && printf '%s\n' "${line%%\"*}" ;; esac
     done <"$root/tests/model/Cargo.toml"
 }
 
 rust() {
     use='the tests in Rust'
     wanted=$(rust_wanted)
+    [ -n "$wanted" ] || { echo 'tools.sh: tests/model/Cargo.toml has no rust-version' >&2 && exit 2; }
     if ! command -v "$CARGO" >/dev/null 2>&1; then
         lack cargo "$CARGO is not found" "$use" ''
     elif ! of_cargo=$(first_line "$CARGO" --version); then
