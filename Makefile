@@ -1,33 +1,35 @@
-.PHONY: help list list-program test check format tests test-list test-published
+# Targets to type: `make help`. Those of the tests are in the fragments that are included below.
+
+.PHONY: help tools tools-there figures list context-there list-program call-driver archive check format test tests test-make \
+	test-published test-list
+
+# rt proves crates side by side by itself, and two of them at once would write the same files.
+.NOTPARALLEL:
+# A file that a failed recipe wrote is no result.
+.DELETE_ON_ERROR:
 
 # What a new user types first.
 help:
-	@echo 'make list CONTEXT=samples/listing.bin   print the listing of a context'
-	@echo 'make test                               prove everything, try the wrong programs, run every test (up to 40 minutes)'
-	@echo 'make archive                            target/staticlib/libultra.a, for C; make install PREFIX=.. puts it in place'
-	@echo 'make check                              the proofs alone, without starting from nothing'
-
-# The listing of one context, by the proved program.
-list:
-	@test -f '$(CONTEXT)' || { echo 'usage: make list CONTEXT=samples/listing.bin (a file that is there)' >&2; exit 2; }
-	@$(MAKE) -s --no-print-directory list-program >&2
-	@target/bin/list_context <'$(CONTEXT)'
-
-list-program: target/bin/list_context
-
-# The gate: see .ci/run.
-test:
-	.ci/run
-
-# The proofs without starting from nothing, and without the must-fail edits.
-check:
-	rt check
-
-format:
-	rt fmt
-
-# What no proof replaces: the archive and the program, tested. The gate runs it after the proofs.
-tests: test-published test-traceability test-list test-samples test-c test-examples test-model compare compare-listings
+	@echo 'Use it'
+	@echo '  make list CONTEXT=FILE    print the listing of a context, for instance samples/listing.bin'
+	@echo '  make archive              target/staticlib/libultra.a, for C'
+	@echo '  make install PREFIX=..    the archive, ultra.h, a pkg-config file and the program ultra-list; make uninstall takes them away'
+	@echo '  make call-driver          target/bin/call_driver, by which a program in any language makes every call'
+	@echo 'Check it'
+	@echo '  make tools                which tools are needed, and are they there'
+	@echo '  make test                 the gate: prove all from nothing, try the wrong programs, run every test; about half an hour'
+	@echo '  make tests                the tests without the proofs'
+	@echo '  make compare N=..         every call beside the independent implementation, on N inputs'
+	@echo '  make fuzz SECONDS=..      the archive under libFuzzer'
+	@echo '  make bench                the speed of the archive'
+	@echo '  make where WORD=..        what states, proves and runs the sentences of document 01 that have a word'
+	@echo '  make figures              how much there is of code, statements, proofs and tests'
+	@echo 'Change it'
+	@echo '  make check                prove what has changed'
+	@echo '  make format               lay the sources out'
+	@echo '  make samples              write the samples anew'
+	@echo '  make traceability         write docs/traceability anew'
+	@echo '  make wrong-programs       write docs/WRONG_PROGRAMS.md anew'
 
 include tests/tests.mk
 include tests/samples.mk
@@ -36,13 +38,71 @@ include tests/traceability.mk
 include tests/model/model.mk
 include tests/bench/bench.mk
 
-# The program is linked once every crate that it is made of is proved; a line is printed for each as it goes.
+# ---- What is there ----
+
+TOOLS := CC='$(CC)' CXX='$(CXX)' PYTHON='$(PYTHON)' CARGO='$(CARGO)' VALGRIND='$(VALGRIND)' tests/tools.sh
+
+tools:
+	@$(TOOLS) -l
+
+tools-there:
+	@$(TOOLS)
+
+figures:
+	@$(PYTHON) tests/figures.py
+
+# ---- What rt makes of proved crates ----
+
+# Of every crate: rt itself knows which it has to prove, and is done at once where there are none.
+ULTRA_SOURCES := crates.txt $(shell find crates -type f \( -path '*/src/*' -o -path '*/specs/*' -o -path '*/proofs/*' \))
+
 target/bin/list_context: $(ULTRA_SOURCES)
-	@echo 'make: proving the crates that the listing is made of; from nothing this takes some minutes' >&2
-	@mkdir -p target
-	@bash -o pipefail -c "rt check list_context 2>&1 | tee target/list_program.log | { grep --line-buffered '^rt: ' || true; }" >&2 || \
-		{ echo 'make: not proved; target/list_program.log says why' >&2; exit 1; }
-	@touch -c $@
+	@tests/prove.sh $@ target/list_program.log check list_context
+
+target/bin/call_driver: $(ULTRA_SOURCES)
+	@tests/prove.sh $@ target/call_driver.log check call_driver
+
+target/staticlib/libultra.a: $(ULTRA_SOURCES)
+	@tests/prove.sh $@ target/archive.log staticlib ultra
+
+# Nothing is said where there is nothing to do.
+list-program: target/bin/list_context
+	@:
+call-driver: target/bin/call_driver
+	@:
+archive: $(ARCHIVE)
+	@:
+
+# The listing of one context, by the proved program.
+list: context-there list-program
+	@target/bin/list_context <'$(CONTEXT)'
+
+context-there:
+	@test -f '$(CONTEXT)' || { echo 'usage: make list CONTEXT=samples/listing.bin (a file that is there)' >&2; exit 2; }
+
+# ---- Proofs, layout and tests ----
+
+# The gate: see .ci/run.
+test:
+	@.ci/run
+
+# The proofs without starting from nothing, and without the must-fail edits.
+check:
+	@tests/tools.sh rt
+	rt check
+
+format:
+	@tests/tools.sh rt
+	rt fmt
+
+# What no proof replaces: the archive and the program, tested. The gate runs it after the proofs.
+tests: tools-there test-make test-published test-traceability test-list test-samples test-c test-examples test-model compare \
+	compare-listings
+	@echo 'tests: all passed'
+
+# The targets themselves: what they say where a tool is missing or rt fails.
+test-make:
+	$(PYTHON) tests/make_test.py
 
 # The checker's own tests, and then the contracts: "no call relies on a check made before it", and each is what demand 2 runs the call by.
 test-published:

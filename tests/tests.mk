@@ -1,8 +1,8 @@
-# The C side: the archive, its tests, installing it, fuzzing it. The Makefile at the root includes this; paths are from there.
+# The C side: the tests of the archive, installing it, fuzzing it. The Makefile at the root includes this; paths are from there.
 #
-#   make archive                      target/staticlib/libultra.a, proved anew where a source is younger
 #   make test-c                       every test of the archive and the header; some seconds besides the archive
-#   make install PREFIX=.. DESTDIR=.. the archive, the header and a pkg-config file
+#   make install PREFIX=.. DESTDIR=.. the archive, the header, a pkg-config file and the listing program, as ultra-list
+#   make uninstall PREFIX=.. DESTDIR=.. removes these four files
 #   make fuzz SECONDS=60              the fuzz target, for that time
 #
 # What is made stands in target/.
@@ -14,6 +14,7 @@ STACK_LIMIT := 4096
 
 CXX ?= g++
 PYTHON ?= python3
+CARGO ?= cargo
 VALGRIND ?= valgrind
 FUZZ_CC ?= clang
 
@@ -29,17 +30,8 @@ FREESTANDING := -std=gnu11 -O1 $(TESTS_WARN) -Iinclude -ffreestanding -nostdlib 
 	-fno-tree-loop-distribute-patterns
 MEMCHECK := $(VALGRIND) -q --error-exitcode=99 --leak-check=full --errors-for-leak-kinds=definite
 
-.PHONY: archive test-c test-header test-symbols test-layout test-edges test-valgrind test-sanitizers test-freestanding test-stack \
-	test-seeds test-install install fuzz
-
-# ---- The archive ----
-
-ULTRA_SOURCES := crates.txt $(shell find crates -type f \( -path '*/src/*' -o -path '*/specs/*' -o -path '*/proofs/*' \))
-
-archive: $(ARCHIVE)
-
-target/staticlib/libultra.a: $(ULTRA_SOURCES)
-	rt staticlib ultra
+.PHONY: test-c test-header test-symbols test-layout test-edges test-valgrind test-sanitizers test-freestanding test-stack \
+	test-seeds test-install install uninstall fuzz
 
 # ---- The tests ----
 
@@ -104,18 +96,22 @@ test-seeds: $(TESTS_OUT)/replay
 	$(TESTS_OUT)/replay tests/fuzz/corpus/* $(TESTS_OUT)/seeds/* >$(TESTS_OUT)/replay.log
 	@echo "replay: $$(wc -l <$(TESTS_OUT)/replay.log) inputs"
 
-test-install: $(ARCHIVE) | $(TESTS_OUT)
+test-install: $(ARCHIVE) list-program | $(TESTS_OUT)
 	CC='$(CC)' tests/install.sh $(TESTS_OUT)/install $(MAKE) ARCHIVE=$(ARCHIVE)
 
 # ---- Installing ----
 
 INSTALL_TO = $(DESTDIR)$(abspath $(PREFIX))
 
-install: $(ARCHIVE)
-	install -d '$(INSTALL_TO)/lib/pkgconfig' '$(INSTALL_TO)/include'
+install: $(ARCHIVE) list-program
+	install -d '$(INSTALL_TO)/bin' '$(INSTALL_TO)/lib/pkgconfig' '$(INSTALL_TO)/include'
+	install -m 755 target/bin/list_context '$(INSTALL_TO)/bin/ultra-list'
 	install -m 644 $(ARCHIVE) '$(INSTALL_TO)/lib/libultra.a'
 	install -m 644 include/ultra.h '$(INSTALL_TO)/include/ultra.h'
 	sed 's,@PREFIX@,$(abspath $(PREFIX)),; s,@VERSION@,$(ULTRA_RELEASE),' ultra.pc.in >'$(INSTALL_TO)/lib/pkgconfig/ultra.pc'
+
+uninstall:
+	cd '$(INSTALL_TO)' && rm -f bin/ultra-list lib/libultra.a include/ultra.h lib/pkgconfig/ultra.pc
 
 # ---- Fuzzing ----
 
