@@ -1,9 +1,9 @@
 #!/usr/bin/env python3
-"""Holds the contract of every published call to the definition that README.md and demand 2 name.
+"""Holds the contract of every published call to the definition that docs/CALLS.md and demand 2 name.
 
 usage: published.py [ROOT]     ROOT is the repository's folder
 
-Published are the calls of the tables below "Calls from C" and "Calls from Rattle" in README.md. What is held of each:
+Published are the calls of the tables below "Calls from C" and "Calls from Rattle" in docs/CALLS.md. What is held of each:
 
     requires    It has none: "no call relies on a check made before it" (demand 1).
     ensures     It has one, an equation of all that it answers and writes with a term E: `r ≡ E`; `(r, now (P .exit)) ≡ E` where P is lent
@@ -24,12 +24,13 @@ import pathlib
 import re
 import sys
 
+PAGE = "docs/CALLS.md"
 CALLS, CALLS_FROM_C = "crates/demand_2/specs/Calls.antt", "crates/demand_2/specs/CallsFromC.antt"
 ADDITIONS = "crates/ultra_format/specs/Additions.antt"
 # The call that no case stands for: its term, and where the names in it come from.
 WITHOUT_BUFFER = {"Cursor::first": ("cursorAt 0 8", {"cursorAt": "Rattle.ultra_stepping.specs.Stepping.cursorAt"})}
 RELATIONS = {"≡": ("_≡_", "mathlib.Core.Path._≡_"), "PartOf": ("PartOf", "Rattle.ultra_questions.specs.Parts.PartOf")}
-# What stands around the definition that README.md names.
+# What stands around the definition that the page names.
 AROUND = {"answerCrossed", "stepCrossed", "readingCrossed", "partCrossed", "crossed", "length"}
 # What the cases of each kind are run by.
 WRITERS = {"Write": "runWrite", "WriteFromC": "runWriteFromC"}
@@ -172,22 +173,22 @@ def snake(name):
     return re.sub(r"[A-Z]", lambda found: f"_{found[0].lower()}", name)
 
 
-# ---- README.md ----
+# ---- The page ----
 
 
-def rows(readme, title):
+def rows(page, title):
     """The cells of each row of the table below a heading."""
-    section = readme.partition(f"### {title}\n")[2].split("\n## ", 1)[0].split("\n### ", 1)[0]
+    section = page.partition(f"### {title}\n")[2].split("\n## ", 1)[0].split("\n### ", 1)[0]
     lines = [line for line in section.split("\n") if line.startswith("| `")]
     found = [[cell.strip() for cell in line.strip().strip("|").split(" | ")] for line in lines]
     if not found or min(map(len, found)) < 3:
-        raise Unreadable(f"README.md: no table below `{title}`, or a row of fewer than 3 cells")
+        raise Unreadable(f"{PAGE}: no table below `{title}`, or a row of fewer than 3 cells")
     return found
 
 
-def calls_from_rattle(readme, root):
+def calls_from_rattle(page, root):
     file = root
-    for names, source, *cells in rows(readme, "Calls from Rattle"):
+    for names, source, *cells in rows(page, "Calls from Rattle"):
         if source != "the same":
             crate, _, path = source.partition(", ")
             file = root / "crates" / crate / path
@@ -200,9 +201,9 @@ def exported(root):
     return {name: file for file in files for name in re.findall(r'^pub extern "C" fn (\w+)', read(file), re.M)}
 
 
-def calls_from_c(readme, root):
+def calls_from_c(page, root):
     files = exported(root)
-    for names, *_, cell in rows(readme, "Calls from C"):
+    for names, *_, cell in rows(page, "Calls from C"):
         yield from (Call(name, files.get(name, root / "crates/ultra/src"), cell) for name in listed(names))
 
 
@@ -438,7 +439,7 @@ def differences(found, wanted, named_by):
 def row_differences(call, wanted):
     definition = shown(unqualified(headed(wanted.term)))
     named = re.findall(r"`([^`]+)`", call.cell)
-    return [] if named[:1] == [definition] else [f"README.md names `{(named or ['nothing'])[0]}` first, expected `{definition}`"]
+    return [] if named[:1] == [definition] else [f"{PAGE} names `{(named or ['nothing'])[0]}` first, expected `{definition}`"]
 
 
 def wanted_of(call, function, stands, replies):
@@ -465,7 +466,7 @@ def case_problems(stands, paths):
     for case in stands:
         missing = [path for path in case.calls if path not in paths]
         if missing or not case.calls:
-            yield f"{case.spec.file}: case `{case.name}` stands for {', '.join(missing) or 'no call'}, expected calls that README.md publishes"
+            yield f"{case.spec.file}: case `{case.name}` stands for {', '.join(missing) or 'no call'}, expected calls that {PAGE} publishes"
     for runner, spec in {case.runner: case.spec for case in stands}.items():
         names = {case.name for case in stands if case.runner == runner}
         heads = [pattern(left)[0] for left, _ in equations(spec, runner)]
@@ -505,16 +506,16 @@ def all_problems(root, calls):
         for told in call_problems(call, [case for case in stands if call.path in case.calls], replies):
             yield f"{call.path}, {call.file.relative_to(root)}: {told}"
     paths = [call.path for call in calls]
-    yield from (f"{path}: in README.md {paths.count(path)} times, expected once" for path in sorted(set(paths)) if paths.count(path) > 1)
+    yield from (f"{path}: in {PAGE} {paths.count(path)} times, expected once" for path in sorted(set(paths)) if paths.count(path) > 1)
     yield from case_problems(stands, paths)
     yield from handing_problems(spec, spec_from_c)
     yield from gathered_problems(stands, cases(spec_of(root, ADDITIONS), "Addition"), cases(spec, "Members"))
-    yield from (f"{name}, {file.relative_to(root)}: exported, expected in README.md" for name, file in exported(root).items() if name not in paths)
+    yield from (f"{name}, {file.relative_to(root)}: exported, expected in {PAGE}" for name, file in exported(root).items() if name not in paths)
 
 
 def published(root):
-    readme = read(root / "README.md")
-    return [*calls_from_c(readme, root), *calls_from_rattle(readme, root)]
+    page = read(root / PAGE)
+    return [*calls_from_c(page, root), *calls_from_rattle(page, root)]
 
 
 def problems(root):
@@ -531,7 +532,7 @@ def problems(root):
 def main(arguments):
     root = pathlib.Path(arguments[0] if arguments else ".")
     found = problems(root)
-    print("\n".join(found) or f"published: {len(published(root))} calls, each an equation with the definition that README and demand 2 name")
+    print("\n".join(found) or f"published: {len(published(root))} calls, each an equation with the definition that {PAGE} and demand 2 name")
     return 1 if found else 0
 
 

@@ -12,7 +12,7 @@ sys.dont_write_bytecode = True
 
 import published
 
-README = "README.md"
+PAGE = "docs/CALLS.md"
 CALLS = "crates/demand_2/specs/Calls.antt"
 FROM_C = "crates/demand_2/specs/CallsFromC.antt"
 ADDITIONS = "crates/ultra_format/specs/Additions.antt"
@@ -25,7 +25,7 @@ ASKING = "crates/asking/src/lib.rt"
 CURSOR = "crates/asking/src/cursor.rt"
 
 FILES = {
-    README: """# Library
+    PAGE: """# Library
 
 ### Calls from C
 
@@ -426,10 +426,10 @@ class Names(Case):
         self.told(*unpassed)
         self.change(ADDING, "pub mod members;", "mod members;")
         self.told(*unpassed)
-        self.change(README, "making, src/lib.rt", "adding, src/lib.rt")
+        self.change(PAGE, "making, src/lib.rt", "adding, src/lib.rt")
         self.change(ADDING, "pub mod members;", FILES[LIB].replace("·specs", "") + "pub mod members;")
         self.told(f"making::begin, {ADDING}: lib.rt does not pass it on under this path, expected a `pub use` or `pub mod`")
-        self.change(README, "making, src/lib.rt", "adding, src/lib.rt")
+        self.change(PAGE, "making, src/lib.rt", "adding, src/lib.rt")
         self.change(ADDING, "pub mod members;", FILES[LIB].replace("·specs", "") + "pub mod members;")
         self.change(LIB, "pub use adding::members;", "pub use adding::begin;\npub use adding::members;")
         self.told()
@@ -456,11 +456,11 @@ class Demand2(Case):
 
     def test_a_case_for_no_published_call(self):
         self.change(CALLS, "  askSize : Question\n", "  askSize : Question\n  askMore : Question\n")
-        self.told(f"{CALLS}: case `askMore` stands for no call, expected calls that README.md publishes")
-        self.change(README, "| `asking::size(buf) -> u32` | the same | the length of `listing` |\n", "")
-        self.told(f"{CALLS}: case `askSize` stands for asking::size, expected calls that README.md publishes")
+        self.told(f"{CALLS}: case `askMore` stands for no call, expected calls that docs/CALLS.md publishes")
+        self.change(PAGE, "| `asking::size(buf) -> u32` | the same | the length of `listing` |\n", "")
+        self.told(f"{CALLS}: case `askSize` stands for asking::size, expected calls that docs/CALLS.md publishes")
         self.change(FROM_C, "  ultraLook :", "  ultraMore : QuestionFromC\n  ultraLook :")
-        self.told(f"{FROM_C}: case `ultraMore` stands for ultra_more, expected calls that README.md publishes")
+        self.told(f"{FROM_C}: case `ultraMore` stands for ultra_more, expected calls that docs/CALLS.md publishes")
 
     def test_another_buffer_handed_back(self):
         written, kept = "run (write w) b = runWrite w b", "run (ask q) b = (replyOf q b, b)"
@@ -524,26 +524,26 @@ class Demand2(Case):
         self.told(f"Cursor::step, {CURSOR}: 2 parameters beside buf, expected 1 as in `step`, {CALLS}")
 
 
-class Readme(Case):
+class Page(Case):
     def test_another_definition(self):
-        self.change(README, "| `stepOf` |", "| `lookOf` |")
-        self.told(f"Cursor::step, {CURSOR}: README.md names `lookOf` first, expected `stepOf`")
-        self.change(README, "| 2 | `addedMembers` of `moduleOf` |", "| 2 | `crossed` |")
-        self.told(f"ultra_add_module, {C}: README.md names `crossed` first, expected `addedMembers`")
-        self.change(README, "the length of `listing`", "the length")
-        self.told(f"asking::size, {ASKING}: README.md names `nothing` first, expected `listing`")
+        self.change(PAGE, "| `stepOf` |", "| `lookOf` |")
+        self.told(f"Cursor::step, {CURSOR}: docs/CALLS.md names `lookOf` first, expected `stepOf`")
+        self.change(PAGE, "| 2 | `addedMembers` of `moduleOf` |", "| 2 | `crossed` |")
+        self.told(f"ultra_add_module, {C}: docs/CALLS.md names `crossed` first, expected `addedMembers`")
+        self.change(PAGE, "the length of `listing`", "the length")
+        self.told(f"asking::size, {ASKING}: docs/CALLS.md names `nothing` first, expected `listing`")
 
     def test_an_exported_function_that_is_not_there(self):
         self.change(C, "// fn ultra_look, in a comment", '#[no_mangle]\npub extern "C" fn ultra_more() -> u64\n{\n    0\n}\n')
-        self.told(f"ultra_more, {C}: exported, expected in README.md")
+        self.told(f"ultra_more, {C}: exported, expected in docs/CALLS.md")
 
     def test_a_call_twice(self):
-        self.change(README, "`making::add_module`, `add_line`", "`making::add_module`, `add_line`, `add_line`")
-        self.told("making::add_line: in README.md 2 times, expected once")
+        self.change(PAGE, "`making::add_module`, `add_line`", "`making::add_module`, `add_line`, `add_line`")
+        self.told("making::add_line: in docs/CALLS.md 2 times, expected once")
 
     def test_no_table(self):
-        self.change(README, "### Calls from Rattle", "### Others")
-        self.told("README.md: no table below `Calls from Rattle`, or a row of fewer than 3 cells")
+        self.change(PAGE, "### Calls from Rattle", "### Others")
+        self.told("docs/CALLS.md: no table below `Calls from Rattle`, or a row of fewer than 3 cells")
 
 
 class Main(Case):
@@ -554,7 +554,7 @@ class Main(Case):
         return status, said.getvalue()
 
     def test_status(self):
-        line = "published: 12 calls, each an equation with the definition that README and demand 2 name\n"
+        line = "published: 12 calls, each an equation with the definition that docs/CALLS.md and demand 2 name\n"
         self.assertEqual(self.run_main(), (0, line))
         self.change(CURSOR, "cursorAt 0 8", "cursorAt 1 8")
         self.assertEqual(self.run_main()[0], 1)

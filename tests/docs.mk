@@ -1,0 +1,9 @@
+# README.md and the pages that it leads to. The Makefile at the root includes this; PYTHON is set in tests/tests.mk.
+#
+#   make test-readme     the checker's own tests, and then the pages: code, links, README.md's size and its picture of a context
+
+.PHONY: test-readme
+
+test-readme:
+	$(PYTHON) tests/readme_test.py
+	$(PYTHON) tests/readme.py
