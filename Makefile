@@ -1,7 +1,7 @@
 # Targets to type: `make help`. Those of the tests are in the fragments that are included below.
 
 .PHONY: help tools tools-there figures list context-there list-program call-driver archive check format test tests test-make \
-	test-published test-list
+	test-published test-list test-driver
 
 # rt proves crates side by side by itself, and two of them at once would write the same files.
 .NOTPARALLEL:
@@ -35,6 +35,9 @@ include tests/tests.mk
 include tests/samples.mk
 include tests/examples.mk
 include tests/traceability.mk
+include tests/docs.mk
+include tests/format.mk
+include tests/wrong_programs.mk
 include tests/model/model.mk
 include tests/bench/bench.mk
 
@@ -95,9 +98,9 @@ format:
 	@tests/tools.sh rt
 	rt fmt
 
-# What no proof replaces: the archive and the program, tested. The gate runs it after the proofs.
-tests: tools-there test-make test-published test-traceability test-list test-samples test-c test-examples test-model compare \
-	compare-listings
+# What no proof replaces: the archive and the programs, tested. The gate runs it after the proofs.
+tests: tools-there test-make test-published test-readme test-format test-traceability test-wrong-programs test-list test-samples \
+	test-driver test-c test-examples test-model compare compare-listings
 	@echo 'tests: all passed'
 
 # The targets themselves: what they say where a tool is missing or rt fails.
@@ -112,3 +115,7 @@ test-published:
 # `make list` prints the listing and nothing else on standard output.
 test-list: list-program
 	$(MAKE) --no-print-directory list CONTEXT=samples/listing.bin | cmp - samples/listing.txt
+
+# The driver program answers the example of its page as the page says.
+test-driver: call-driver
+	$(PYTHON) tests/driver.py crates/call_driver/README.md target/bin/call_driver

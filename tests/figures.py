@@ -15,7 +15,7 @@ import stack
 ROOT = pathlib.Path(__file__).resolve().parent.parent
 FUNCTION = re.compile(r'^ *(?:pub )?(?:extern "C" )?fn ', re.MULTILINE)
 # Crates that are no part of the library or its promises: they run it.
-RUNS = ("cases_", "call_driver", "example_")
+RUNS = ("cases_", "call_", "framed_calls", "example_")
 
 
 def files(folders, *patterns):
@@ -44,12 +44,12 @@ def of_sources(root):
     tests = files([root / "tests", root / "samples"], "*.[ch]", "*.rs", "*.py", "*.sh")
     return [
         ("crates", len(crates), "folders of crates/"),
-        ("lines of code", lines(files(parts(library, "src"), "*.rt")), "src/ of every crate but cases_*, call_driver, example_*"),
+        ("lines of code", lines(files(parts(library, "src"), "*.rt")), "src/ of every crate but cases_*, call_*, framed_calls, example_*"),
         ("lines of definitions and statements", lines(files(parts(library, "specs"), "*.antt")), "specs/ of the same crates"),
         ("lines of proofs", lines(files(parts(library, "proofs"), "*.antt")), "proofs/ of the same crates"),
         ("functions, each proved", functions(files(parts(crates, "src"), "*.rt")), "`fn` in src/ of every crate"),
         ("wrong programs, each refused", len(files(parts(crates, "must-fail"), "*.edit")), "must-fail/*.edit of every crate"),
-        ("lines of programs that run it", lines(files(parts(running, "src"), "*.rt")), "src/ of cases_*, call_driver, example_*"),
+        ("lines of programs that run it", lines(files(parts(running, "src"), "*.rt")), "src/ of cases_*, call_*, framed_calls, example_*"),
         ("lines of tests", lines(tests), "C, Rust, Python and shell in tests/ and samples/"),
         ("samples", len(files([root / "samples"], "*.bin")), "samples/*.bin"),
     ]

@@ -40,7 +40,7 @@ INTRODUCTION = """\
 
 A contract that many wrong programs meet proves little. So wrong programs are tried: each is an edit of a crate, one file an edit in
 `crates/NAME/must-fail/LABEL.edit`, and the prover has to refuse the crate with that edit. `make test` tries all of them and fails where one
-is not refused; `rt must-fail NAME` tries those of one crate.
+is not refused; `rt must-fail NAME` tries those of one crate and of every crate that it depends on.
 
 - A label without `spec_` is a wrong program: the edit changes the code and leaves the contract.
 - A label `spec_..` is a wrong definition or statement: the edit leaves the program. That it is refused shows that the proof rests on that
@@ -89,7 +89,7 @@ SECTIONS = [
     ),
     (
         "The statements and the definitions",
-        "Where each is stated: README.md, \"Where each promise is stated and proved\".",
+        "Where each is stated: PROMISES.md, \"Where each promise is stated and proved\".",
         [
             "what reading accepts",
             "what reading refuses",
@@ -151,10 +151,10 @@ SECTIONS = [
         ],
     ),
     (
-        "The programs of cases",
-        "Their contracts rule out only what is undefined. What they print is held by files written by hand. The contract of cases_adds\n"
-        "says besides what the buffers hold that adds are tried in.",
-        ["the programs of cases"],
+        "The programs",
+        "Most of their contracts rule out only what is undefined. What the programs of cases print is held by files written by hand, and what\n"
+        "the driver answers by the comparison. The contract of cases_adds says what the buffers hold that adds are tried in.",
+        ["the programs of cases", "the example", "the driver program"],
     ),
 ]
 
