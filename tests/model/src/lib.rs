@@ -5,7 +5,8 @@
 //! and numbers in, a single `u64` out. The modules under it go by subject:
 //! the [`format`] and its [`records`], [`reading`], [`stepping`],
 //! [`questions`] and [`building`]. [`mod@listing`] is what the listing program
-//! prints. [`generator`] makes the inputs of the drivers.
+//! prints. [`generator`] makes the inputs of the programs that compare, and [`mod@tally`] counts
+//! what they met.
 
 #![forbid(unsafe_code)]
 
@@ -18,5 +19,6 @@ pub mod questions;
 pub mod reading;
 pub mod records;
 pub mod stepping;
+pub mod tally;
 
 pub use format::{Number, Refusal};
