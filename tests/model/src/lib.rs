@@ -6,7 +6,7 @@
 //! the [`format`] and its [`records`], [`reading`], [`stepping`],
 //! [`questions`] and [`building`]. [`mod@listing`] is what the listing program
 //! prints. [`generator`] makes the inputs of the programs that compare, and [`mod@tally`] counts
-//! what they met.
+//! what they met. [`requests`] has a place for each change request.
 
 #![forbid(unsafe_code)]
 
@@ -18,6 +18,7 @@ pub mod listing;
 pub mod questions;
 pub mod reading;
 pub mod records;
+pub mod requests;
 pub mod stepping;
 pub mod tally;
 
