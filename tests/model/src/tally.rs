@@ -99,6 +99,11 @@ impl Tally {
         self.shapes[place] += 1;
     }
 
+    /// How often that shape was met.
+    pub fn met(&self, place: usize) -> u64 {
+        self.shapes[place]
+    }
+
     /// Counts an answer of the call in this row. `own` where it was given a record, and its
     /// buffer was accepted.
     pub fn answer(&mut self, row: usize, number: u64, own: bool) {
