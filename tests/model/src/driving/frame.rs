@@ -1,12 +1,12 @@
 //! Frames: the form that a call and its answer have on their way to and from the program.
 
-use crate::format::u64_at;
+use crate::format::{u32_at, u64_at};
 
 /// "A frame of a call has at most 1,048,576 bytes."
 pub const FRAME_LIMIT: usize = 1_048_576;
 /// Call, how many numbers, how many strings, how many bytes follow.
 pub const HEAD_LENGTH: usize = 16;
-/// In place of the buffer's length: it is the one that the call before had.
+/// In place of the buffer's length: it is the one of the last call that had one.
 pub const KEPT: u32 = u32::MAX;
 
 /// A string of a call: its bytes, or the word for the kept buffer.
@@ -37,8 +37,7 @@ pub struct Head {
 
 impl Head {
     pub fn of(bytes: &[u8; HEAD_LENGTH]) -> Head {
-        let [call, numbers, strings, rest] =
-            [0, 4, 8, 12].map(|at| crate::format::u32_at(bytes, at));
+        let [call, numbers, strings, rest] = [0, 4, 8, 12].map(|at| u32_at(bytes, at));
         Head {
             call,
             numbers,
