@@ -13,7 +13,8 @@ CARGO ?= cargo
 
 BENCH_OUT := target/bench
 BENCH := $(BENCH_OUT)/cargo/release/ultra_bench
-BENCH_SOURCES := $(wildcard tests/bench/src/*.rs tests/bench/Cargo.* tests/bench/build.rs tests/model/src/*.rs tests/model/Cargo.*)
+BENCH_SOURCES := $(wildcard tests/bench/src/*.rs tests/bench/Cargo.* tests/bench/build.rs tests/model/src/*.rs tests/model/Cargo.* \
+	tests/model/archive/src/*.rs tests/model/archive/Cargo.* tests/model/archive/build.rs)
 
 .PHONY: bench bench-docs
 

@@ -1,26 +1,33 @@
-# The independent implementation in Rust, and the comparison of the archive and of the listing program with it. The Makefile at the
-# root includes this.
+# The independent implementation in Rust, and the comparison of the archive, of the published calls and of the listing program with it.
+# The Makefile at the root includes this.
 #
-#   make test-model                              the implementation on the cases of document 01, and its listing
-#   make compare N=.. SEED=..                    every call on N seeded inputs, 1,000,000 where none is given
+#   make test-model                              the implementation on the cases of document 01, its listing, and its frames
+#   make compare                                 the next two
+#   make compare-archive N=.. SEED=..            the calls toward C on N seeded inputs, 1,000,000 where none is given
+#   make compare-driven N_DRIVEN=.. SEED=..      every published call of Rattle, through the driver program, on seeded inputs, 300,000
+#                                                where none is given; the frames of an input on which it differs are left in target/driven
 #   make compare-listings N_LISTINGS=.. SEED=..  the listing program on seeded inputs, 4,000 where none is given; an input on which it
 #                                                differs is left in target/listings
 
-.PHONY: compare-listings
+.PHONY: test-model compare compare-archive compare-driven compare-listings
 
 N ?= 1000000
+N_DRIVEN ?= 300000
 N_LISTINGS ?= 4000
 SEED ?=
-# The listings need no archive.
-MODEL_ALONE := CARGO_TARGET_DIR=$(CURDIR)/target/model cargo
-MODEL := ULTRA_ARCHIVE_DIR=$(CURDIR)/target/staticlib $(MODEL_ALONE)
-MODEL_FLAGS := --quiet --release --offline --manifest-path tests/model/Cargo.toml
+MODEL := CARGO_TARGET_DIR=$(CURDIR)/target/model cargo
+MODEL_FLAGS := --quiet --release --offline --locked --manifest-path tests/model/Cargo.toml
 
-test-model: archive
-	$(MODEL) test $(MODEL_FLAGS) --test cases --test listing
+test-model:
+	$(MODEL) test $(MODEL_FLAGS) --test cases --test listing --test driving
 
-compare: archive
-	$(MODEL) run $(MODEL_FLAGS) --bin compare -- $(N) $(SEED)
+compare: compare-archive compare-driven
+
+compare-archive: archive
+	ULTRA_ARCHIVE_DIR=$(CURDIR)/target/staticlib $(MODEL) run $(MODEL_FLAGS) --features archive --bin compare -- $(N) $(SEED)
+
+compare-driven: call-driver
+	$(MODEL) run $(MODEL_FLAGS) --bin driven -- target/bin/call_driver $(N_DRIVEN) $(SEED)
 
 compare-listings: list-program
-	$(MODEL_ALONE) run $(MODEL_FLAGS) --bin listings -- target/bin/list_context $(N_LISTINGS) $(SEED)
+	$(MODEL) run $(MODEL_FLAGS) --bin listings -- target/bin/list_context $(N_LISTINGS) $(SEED)

@@ -7,7 +7,6 @@
 mod answers;
 mod inputs;
 mod jobs;
-mod library;
 mod records;
 mod subjects;
 mod timing;

@@ -1,15 +1,15 @@
 //! Who is measured: the library, the Rust model, and the unchecked walk in C. The same code
 //! calls all of them.
 //!
-//! SAFETY, for every call here: a slice stands for that many valid bytes, writable where it
-//! is mutable, and two slices of a call do not overlap. The walk trusts the bytes besides: it
-//! is given contexts that the model accepted, whole and aligned to 8 bytes, and room for what
-//! is written.
+//! SAFETY, for every call of the walk: a slice stands for that many valid bytes, writable where
+//! it is mutable, and two slices of a call do not overlap. The walk trusts the bytes besides: it
+//! is given contexts that the model accepted, whole and aligned to 8 bytes, and room for what is
+//! written.
 
 use ultra_model::calls;
 
 use crate::records::{Add, Framebuffer, Kernel, Module, Platform};
-use crate::{library, walks};
+use crate::walks;
 
 pub trait Subject {
     fn read(buf: &[u8]) -> u64;
@@ -46,100 +46,73 @@ pub struct Walk;
 
 impl Subject for Library {
     fn read(buf: &[u8]) -> u64 {
-        unsafe { library::ultra_read(buf.as_ptr(), buf.len()) }
+        ultra_archive::read(buf.into())
     }
 
     fn attribute(buf: &[u8], index: u64) -> u64 {
-        unsafe { library::ultra_attribute(buf.as_ptr(), buf.len(), index) }
+        ultra_archive::attribute(buf.into(), index)
     }
 
     fn copy_map(buf: &[u8], out: &mut [u8]) -> u64 {
-        unsafe { library::ultra_copy_map(buf.as_ptr(), buf.len(), out.as_mut_ptr(), out.len()) }
+        ultra_archive::copy_map(buf.into(), out.into())
     }
 
     fn begin(buf: &mut [u8]) -> u64 {
-        unsafe { library::ultra_begin(buf.as_mut_ptr(), buf.len()) }
+        ultra_archive::begin(buf.into())
     }
 
     fn add_platform(buf: &mut [u8], r: &Platform) -> u64 {
-        unsafe {
-            library::ultra_add_platform(
-                buf.as_mut_ptr(),
-                buf.len(),
-                r.kind,
-                r.loader.0,
-                r.loader.1,
-                r.name.as_ptr(),
-                r.name.len(),
-                r.rsdp,
-                r.higher_half_base,
-                r.depth,
-                r.dtb,
-                r.smbios,
-            )
-        }
+        ultra_archive::add_platform(
+            buf.into(),
+            r.kind,
+            r.loader.0,
+            r.loader.1,
+            r.name.into(),
+            r.rsdp,
+            r.higher_half_base,
+            r.depth,
+            r.dtb,
+            r.smbios,
+        )
     }
 
     fn add_kernel(buf: &mut [u8], r: &Kernel) -> u64 {
-        unsafe {
-            library::ultra_add_kernel(
-                buf.as_mut_ptr(),
-                buf.len(),
-                r.physical_base,
-                r.virtual_base,
-                r.size,
-                r.partition_type,
-                r.disk_guid.as_ptr(),
-                r.disk_guid.len(),
-                r.partition_guid.as_ptr(),
-                r.partition_guid.len(),
-                r.disk_index,
-                r.partition_index,
-                r.path.as_ptr(),
-                r.path.len(),
-            )
-        }
+        ultra_archive::add_kernel(
+            buf.into(),
+            r.physical_base,
+            r.virtual_base,
+            r.size,
+            r.partition_type,
+            r.disk_guid[..].into(),
+            r.partition_guid[..].into(),
+            r.disk_index,
+            r.partition_index,
+            r.path.into(),
+        )
     }
 
     fn add_map(buf: &mut [u8], entries: &[u8]) -> u64 {
-        unsafe {
-            library::ultra_add_map(buf.as_mut_ptr(), buf.len(), entries.as_ptr(), entries.len())
-        }
+        ultra_archive::add_map(buf.into(), entries.into())
     }
 
     fn add_module(buf: &mut [u8], r: &Module) -> u64 {
-        unsafe {
-            library::ultra_add_module(
-                buf.as_mut_ptr(),
-                buf.len(),
-                r.kind,
-                r.name.as_ptr(),
-                r.name.len(),
-                r.address,
-                r.size,
-            )
-        }
+        ultra_archive::add_module(buf.into(), r.kind, r.name.into(), r.address, r.size)
     }
 
     fn add_command_line(buf: &mut [u8], text: &[u8]) -> u64 {
-        unsafe {
-            library::ultra_add_command_line(buf.as_mut_ptr(), buf.len(), text.as_ptr(), text.len())
-        }
+        ultra_archive::add_command_line(buf.into(), text.into())
     }
 
     fn add_framebuffer(buf: &mut [u8], r: &Framebuffer) -> u64 {
-        unsafe {
-            library::ultra_add_framebuffer(
-                buf.as_mut_ptr(),
-                buf.len(),
-                r.width,
-                r.height,
-                r.pitch,
-                r.bpp,
-                r.format,
-                r.address,
-            )
-        }
+        let Framebuffer {
+            width,
+            height,
+            pitch,
+            bpp,
+            format,
+            address,
+        } = *r;
+        ultra_archive::add_framebuffer(buf.into(), width, height, pitch, bpp, format, address)
     }
 }
 

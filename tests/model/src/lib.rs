@@ -5,18 +5,23 @@
 //! and numbers in, a single `u64` out. The modules under it go by subject:
 //! the [`format`] and its [`records`], [`reading`], [`stepping`],
 //! [`questions`] and [`building`]. [`mod@listing`] is what the listing program
-//! prints. [`generator`] makes the inputs of the drivers.
+//! prints, and [`driving`] has the published calls of Rattle, as the driver program makes
+//! them. [`generator`] makes the inputs of the programs that compare, and [`mod@tally`] counts
+//! what they met. [`requests`] has a place for each change request.
 
 #![forbid(unsafe_code)]
 
 pub mod building;
 pub mod calls;
+pub mod driving;
 pub mod format;
 pub mod generator;
 pub mod listing;
 pub mod questions;
 pub mod reading;
 pub mod records;
+pub mod requests;
 pub mod stepping;
+pub mod tally;
 
 pub use format::{Number, Refusal};

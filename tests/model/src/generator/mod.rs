@@ -1,16 +1,20 @@
-//! Seeded inputs, for the drivers that compare the library and the listing with the model:
-//! numbers ([`rng`]), [`records`] and their attributes, and [`contexts`], good and bad. All
+//! Seeded inputs, for the programs that compare the library and the listing with the model:
+//! numbers ([`rng`]), [`records`] and their attributes, [`contexts`], good and bad, and calls
+//! ([`mod@call`]) with [`arguments`] that suit them, alone and in sequences ([`inputs`]). All
 //! of it comes from a seed and an index alone.
 
+pub mod arguments;
+pub mod call;
 pub mod contexts;
 pub mod given;
+pub mod inputs;
 pub mod records;
 pub mod rng;
 
-/// The seed of a driver that is given none.
+/// The seed of a program that is given none.
 pub const DEFAULT_SEED: u64 = 0x554C_5442;
 
-/// A number given to a driver: decimal, or hexadecimal after `0x`.
+/// A number given to a program: decimal, or hexadecimal after `0x`.
 pub fn number(text: &str) -> Option<u64> {
     match text.strip_prefix("0x") {
         Some(digits) => u64::from_str_radix(digits, 16).ok(),

@@ -1,19 +1,16 @@
 //! Both sides on one buffer: every call is made on the library and on the model, and the
 //! answers and all lent bytes are compared.
 
+use ultra_model::generator::call::Call;
 use ultra_model::generator::given::{hex, Given, Start};
+use ultra_model::generator::inputs::{Bench, Difference, Kind};
+use ultra_model::tally::Tally;
 use ultra_model::{calls, reading};
 
-use crate::call::{Call, NAMES};
-use crate::ffi;
 use crate::lent::Lent;
-use crate::tally::Tally;
+use crate::tally::{self, ROWS, SHAPES};
 
-/// How the two sides differ, in words.
-#[derive(Debug)]
-pub struct Difference(pub String);
-
-pub struct Bench {
+pub struct Archive {
     start: Start,
     buffer: Lent,
     arguments: [Lent; 3],
@@ -26,9 +23,9 @@ pub struct Bench {
     pub verbose: bool,
 }
 
-impl Bench {
-    pub fn new(verbose: bool) -> Bench {
-        Bench {
+impl Archive {
+    pub fn new(verbose: bool) -> Archive {
+        Archive {
             start: Start::default(),
             buffer: Lent::new(),
             arguments: [Lent::new(), Lent::new(), Lent::new()],
@@ -36,79 +33,16 @@ impl Bench {
             model_out: Vec::new(),
             accepted: None,
             changed: false,
-            tally: Tally::default(),
+            tally: Tally::new(ROWS, SHAPES),
             verbose,
         }
-    }
-
-    pub fn start(&mut self, start: Start) {
-        self.tally.buffer(&start.buffer);
-        self.buffer.load(&start.buffer, &start.beyond);
-        self.model.clone_from(&start.buffer.bytes);
-        self.accepted = None;
-        self.changed = false;
-        if self.verbose {
-            eprintln!("buffer {:?}", start.buffer);
-            eprintln!("after it [{}]", hex(&start.beyond));
-        }
-        self.start = start;
-    }
-
-    /// Back to what the input started with.
-    pub fn restart(&mut self) {
-        if self.changed {
-            self.buffer.restore(&self.start.buffer.bytes);
-            self.model.clone_from(&self.start.buffer.bytes);
-            self.accepted = None;
-            self.changed = false;
-        }
-    }
-
-    /// The buffer as it is now, which is the same on both sides.
-    pub fn bytes(&self) -> &[u8] {
-        &self.model
-    }
-
-    pub fn call(&mut self, call: &Call) -> Result<u64, Difference> {
-        if self.verbose {
-            eprintln!("{call:?}");
-        }
-        let accepted = call.adds()
-            && *self
-                .accepted
-                .get_or_insert_with(|| reading::read(&self.model, 0).is_ok());
-        self.lend_arguments(call);
-        // The library goes first, so that it finds nothing done for it.
-        let library = self.call_library(call);
-        let model = self.call_model(call);
-        let difference = self.difference(call, library, model);
-        if self.verbose {
-            let show = |answer: u64| format!("{} {}", answer >> 32, answer as u32);
-            eprintln!("  library {}, model {}", show(library), show(model));
-        }
-        if let Some(what) = difference {
-            let name = NAMES[call.id()];
-            return Err(Difference(format!(
-                "{name}: {what}\n  arguments: {call:?}\n  library: {library:#x} (number {}, value {})\n  model:   {model:#x} (number {}, value {})",
-                library >> 32,
-                library as u32,
-                model >> 32,
-                model as u32,
-            )));
-        }
-        self.tally.answer(call, library, accepted);
-        if call.changes() && library >> 32 == 0 {
-            self.changed = true;
-            self.accepted = None;
-        }
-        Ok(library)
     }
 
     /// Lends the slices that cross besides the buffer, an output among them.
     fn lend_arguments(&mut self, call: &Call) {
         for (lent, given) in self.arguments.iter_mut().zip(given(call)) {
             if let Some(given) = given {
-                self.tally.slice(given);
+                tally::slice(&mut self.tally, given);
                 lent.load(given, &[]);
             }
         }
@@ -118,46 +52,48 @@ impl Bench {
     }
 
     fn call_library(&mut self, call: &Call) -> u64 {
-        let buf = &mut self.buffer;
-        let [first, second, third] = &mut self.arguments;
+        let buf = self.buffer.lend();
+        let [first, second, third] = self.arguments.each_mut().map(Lent::lend);
         match call {
-            Call::Read => ffi::read(buf),
-            Call::Step { index, offset } => ffi::step(buf, *index, *offset),
-            Call::Begin => ffi::begin(buf),
-            Call::AddPlatform(r) => ffi::add_platform(
+            Call::Read => ultra_archive::read(buf.into()),
+            Call::Step { index, offset } => ultra_archive::step(buf.into(), *index, *offset),
+            Call::Begin => ultra_archive::begin(buf),
+            Call::AddPlatform(r) => ultra_archive::add_platform(
                 buf,
                 r.kind,
                 r.loader_major,
                 r.loader_minor,
-                first,
+                first.into(),
                 r.rsdp,
                 r.higher_half_base,
                 r.depth,
                 r.dtb,
                 r.smbios,
             ),
-            Call::AddKernel(r) => ffi::add_kernel(
+            Call::AddKernel(r) => ultra_archive::add_kernel(
                 buf,
                 r.physical_base,
                 r.virtual_base,
                 r.size,
                 r.partition_type,
-                first,
-                second,
+                first.into(),
+                second.into(),
                 r.disk_index,
                 r.partition_index,
-                third,
+                third.into(),
             ),
-            Call::AddMap { .. } => ffi::add_map(buf, first),
-            Call::AddModule(r) => ffi::add_module(buf, r.kind, first, r.address, r.size),
-            Call::AddCommandLine { .. } => ffi::add_command_line(buf, first),
-            Call::AddFramebuffer(r) => {
-                ffi::add_framebuffer(buf, r.width, r.height, r.pitch, r.bpp, r.format, r.address)
+            Call::AddMap { .. } => ultra_archive::add_map(buf, first.into()),
+            Call::AddModule(r) => {
+                ultra_archive::add_module(buf, r.kind, first.into(), r.address, r.size)
             }
-            Call::Attribute { index } => ffi::attribute(buf, *index),
-            Call::CopyMap { .. } => ffi::copy_map(buf, first),
-            Call::CommandLine => ffi::command_line(buf),
-            Call::ModuleHolding { address } => ffi::module_holding(buf, *address),
+            Call::AddCommandLine { .. } => ultra_archive::add_command_line(buf, first.into()),
+            Call::AddFramebuffer(r) => ultra_archive::add_framebuffer(
+                buf, r.width, r.height, r.pitch, r.bpp, r.format, r.address,
+            ),
+            Call::Attribute { index } => ultra_archive::attribute(buf.into(), *index),
+            Call::CopyMap { .. } => ultra_archive::copy_map(buf.into(), first),
+            Call::CommandLine => ultra_archive::command_line(buf.into()),
+            Call::ModuleHolding { address } => ultra_archive::module_holding(buf.into(), *address),
         }
     }
 
@@ -228,6 +164,76 @@ impl Bench {
             )),
             _ => None,
         }
+    }
+}
+
+impl Bench for Archive {
+    fn input(&mut self, seed: u64, index: u64, kind: Kind) {
+        if self.verbose {
+            eprintln!("seed {seed:#x}, index {index}: {}", kind.what());
+        }
+        self.tally.input(kind);
+    }
+
+    fn start(&mut self, start: Start) {
+        tally::buffer(&mut self.tally, &start.buffer);
+        self.buffer.load(&start.buffer, &start.beyond);
+        self.model.clone_from(&start.buffer.bytes);
+        self.accepted = None;
+        self.changed = false;
+        if self.verbose {
+            eprintln!("buffer {:?}", start.buffer);
+            eprintln!("after it [{}]", hex(&start.beyond));
+        }
+        self.start = start;
+    }
+
+    fn restart(&mut self) {
+        if self.changed {
+            self.buffer.restore(&self.start.buffer.bytes);
+            self.model.clone_from(&self.start.buffer.bytes);
+            self.accepted = None;
+            self.changed = false;
+        }
+    }
+
+    fn bytes(&self) -> &[u8] {
+        &self.model
+    }
+
+    fn call(&mut self, call: &Call) -> Result<u64, Difference> {
+        if self.verbose {
+            eprintln!("{call:?}");
+        }
+        let accepted = call.adds()
+            && *self
+                .accepted
+                .get_or_insert_with(|| reading::read(&self.model, 0).is_ok());
+        self.lend_arguments(call);
+        // The library goes first, so that it finds nothing done for it.
+        let library = self.call_library(call);
+        let model = self.call_model(call);
+        let difference = self.difference(call, library, model);
+        if self.verbose {
+            let show = |answer: u64| format!("{} {}", answer >> 32, answer as u32);
+            eprintln!("  library {}, model {}", show(library), show(model));
+        }
+        if let Some(what) = difference {
+            let name = ROWS[call.id()].name;
+            return Err(Difference(format!(
+                "{name}: {what}\n  arguments: {call:?}\n  library: {library:#x} (number {}, value {})\n  model:   {model:#x} (number {}, value {})",
+                library >> 32,
+                library as u32,
+                model >> 32,
+                model as u32,
+            )));
+        }
+        tally::answer(&mut self.tally, call, library, accepted);
+        if call.changes() && library >> 32 == 0 {
+            self.changed = true;
+            self.accepted = None;
+        }
+        Ok(library)
     }
 }
 

@@ -9,11 +9,12 @@ use std::thread;
 use std::time::{Duration, Instant};
 
 use ultra_model::generator::given::hex;
+use ultra_model::generator::inputs::{self, Bench, Difference};
 use ultra_model::generator::{number, DEFAULT_SEED};
+use ultra_model::tally::Tally;
 
-use crate::bench::{Bench, Difference};
-use crate::inputs;
-use crate::tally::Tally;
+use crate::bench::Archive;
+use crate::tally::{ROWS, SHAPES};
 
 const DEFAULT_INPUTS: u64 = 1_000_000;
 const DEFAULT_THREADS: u64 = 2;
@@ -164,14 +165,14 @@ fn part(run: Run) -> ExitCode {
     // No input from here on needs to be run.
     let stop = AtomicU64::new(run.to);
     let at: Vec<AtomicU64> = (0..run.threads).map(|_| AtomicU64::new(IDLE)).collect();
-    let mut total = Tally::default();
+    let mut total = Tally::new(ROWS, SHAPES);
 
     thread::scope(|scope| {
         let workers: Vec<_> = (0..run.threads)
             .map(|place| {
                 let (first, stop, at) = (&first, &stop, &at[place as usize]);
                 scope.spawn(move || {
-                    let mut bench = Bench::new(false);
+                    let mut bench = Archive::new(false);
                     let mut index = run.from + place;
                     while index < stop.load(Ordering::Relaxed) {
                         at.store(index, Ordering::Relaxed);
@@ -246,7 +247,7 @@ fn watch(seed: u64, at: &[AtomicU64], done: impl Fn() -> bool) {
 }
 
 fn one(seed: u64, index: u64) -> ExitCode {
-    let mut bench = Bench::new(true);
+    let mut bench = Archive::new(true);
     match inputs::run(&mut bench, seed, index) {
         Ok(()) => {
             eprintln!("no difference");

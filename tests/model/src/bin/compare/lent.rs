@@ -1,14 +1,11 @@
 //! Memory lent to the library, with guard bytes on both sides.
 
-use std::ptr;
-
+use ultra_archive::BytesMut;
 use ultra_model::generator::given::Given;
 
 const GUARD: usize = 64;
 
-/// Bytes at a chosen address modulo 16, between two guards. The pointer handed out is one
-/// into the whole memory, so that a library that writes too far, or writes where it may
-/// only read, is seen to do so.
+/// Bytes at a chosen address modulo 16, between two guards.
 pub struct Lent {
     memory: Vec<u8>,
     start: usize,
@@ -63,15 +60,13 @@ impl Lent {
         &self.memory[self.start..self.start + self.length]
     }
 
-    /// Pointer and length, as they cross toward C; an empty slice may cross as null.
-    pub fn raw(&mut self) -> (*mut u8, usize) {
+    /// The bytes, as they cross toward C; no bytes may cross as null. All are lent mutably,
+    /// also where the library may only read: that it does not write is what is tested.
+    pub fn lend(&mut self) -> BytesMut<'_> {
         if self.null && self.length == 0 {
-            return (ptr::null_mut(), 0);
+            return BytesMut::null();
         }
-        (
-            self.memory.as_mut_ptr().wrapping_add(self.start),
-            self.length,
-        )
+        BytesMut::part(&mut self.memory, self.start..self.start + self.length)
     }
 
     pub fn guards_hold(&self) -> bool {

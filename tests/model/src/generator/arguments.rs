@@ -1,10 +1,10 @@
 //! Arguments that suit a buffer: about its offsets, counts, ranges and room.
 
-use ultra_model::generator::contexts::ROOM;
-use ultra_model::generator::records::{lend, Record};
-use ultra_model::generator::rng::Rng;
+use crate::generator::contexts::ROOM;
+use crate::generator::records::{lend, Record};
+use crate::generator::rng::Rng;
 
-use crate::call::Call;
+use crate::generator::call::Call;
 
 struct Header {
     start: usize,

@@ -1,7 +1,8 @@
-//! The thirteen calls with their arguments, and the numbers each of them can give.
+//! The thirteen calls toward C with their arguments. A published call of Rattle is another
+//! form of one of them, or asks for the same.
 
-use ultra_model::generator::given::Given;
-use ultra_model::generator::records::{Framebuffer, Kernel, Module, Platform, Record};
+use crate::generator::given::Given;
+use crate::generator::records::{Framebuffer, Kernel, Module, Platform, Record};
 
 #[derive(Clone, Debug)]
 pub enum Call {
@@ -22,22 +23,6 @@ pub enum Call {
 
 pub const CALLS: usize = 13;
 
-pub const NAMES: [&str; CALLS] = [
-    "read",
-    "step",
-    "begin",
-    "add_platform",
-    "add_kernel",
-    "add_map",
-    "add_module",
-    "add_command_line",
-    "add_framebuffer",
-    "attribute",
-    "copy_map",
-    "command_line",
-    "module_holding",
-];
-
 impl Call {
     /// The call that adds the record; none adds a type from 7 up.
     pub fn adding(record: Record) -> Option<Call> {
@@ -52,7 +37,7 @@ impl Call {
         })
     }
 
-    /// The place of the call in [`NAMES`].
+    /// The place of the call above, from 0.
     pub fn id(&self) -> usize {
         match self {
             Call::Read => 0,
@@ -80,54 +65,3 @@ impl Call {
         self.adds() || matches!(self, Call::Begin)
     }
 }
-
-/// A set of numbers, one bit each.
-const fn set(numbers: &[u32]) -> u32 {
-    let mut bits = 0;
-    let mut i = 0;
-    while i < numbers.len() {
-        bits |= 1 << numbers[i];
-        i += 1;
-    }
-    bits
-}
-
-/// 0 to 16: success, or a refusal of reading.
-const READING: u32 = (1 << 17) - 1;
-/// What adding gives: reading without 4, and 17 and 18 of its own.
-const ADDING: u32 = READING & !set(&[4]) | set(&[17, 18]);
-
-/// The numbers each call can give. The command line has none; its answer is counted as 0.
-pub const POSSIBLE: [u32; CALLS] = [
-    READING,
-    set(&[0, 1, 2, 3, 4, 5, 6, 7, 8]),
-    set(&[0, 1]),
-    ADDING,
-    ADDING,
-    ADDING,
-    ADDING,
-    ADDING,
-    ADDING,
-    READING,
-    READING | set(&[18, 19]),
-    set(&[0]),
-    READING,
-];
-
-/// The numbers an add can give for the record itself, its buffer being accepted. A platform
-/// has no 12 toward C: no member can be left absent.
-pub const OWN: [u32; CALLS] = [
-    0,
-    0,
-    0,
-    set(&[9, 13, 14, 17, 18]),
-    set(&[9, 12, 13, 14, 15, 17, 18]),
-    set(&[9, 10, 12, 13, 15, 16, 17, 18]),
-    set(&[9, 11, 13, 14, 15, 17, 18]),
-    set(&[9, 10, 14, 17, 18]),
-    set(&[9, 10, 13, 15, 17, 18]),
-    0,
-    0,
-    0,
-    0,
-];

@@ -1,0 +1,38 @@
+//! The longest buffers, maps, outputs and frames that the program takes.
+
+use ultra_model::driving::frame::{FRAME_LIMIT, HEAD_LENGTH};
+use ultra_model::driving::table::*;
+use ultra_model::generator::contexts;
+use ultra_model::generator::inputs::Difference;
+use ultra_model::generator::records::Record;
+use ultra_model::generator::rng::Rng;
+
+use crate::bench::Driven;
+use crate::spelling::Asked;
+
+pub fn run(bench: &mut Driven, rng: &mut Rng) -> Result<(), Difference> {
+    // A context at the start of the longest buffer.
+    let mut bytes = contexts::valid(rng, false).buffer.bytes;
+    bytes.resize(BUFFER_LIMIT, 0xA5);
+    bench.load(bytes);
+    bench.make(&Asked::new(READ, &[], &[]))?;
+    bench.make_kept(&Asked::new(MODULE_HOLDING, &[rng.word()], &[]))?;
+    let name: &[u8] = b"last";
+    bench.make_kept(&Asked::new(ADD_MODULE, &[1, 4096, 1], &[name]))?;
+
+    let bytes = contexts::valid(rng, false).buffer.bytes;
+    bench.load(bytes);
+    if let Record::Map(entries) = Record::map_of(rng, NUMBERS_LIMIT / 3) {
+        bench.make(&Asked::new(ADD_MAP, &[], &[&entries.bytes]))?;
+    }
+    for more in [0, 7] {
+        let output = rng.bytes(8 * NUMBERS_LIMIT + more);
+        bench.make_kept(&Asked::new(COPY_MAP, &[], &[&output]))?;
+    }
+    for call in [ADD_COMMAND_LINE, COPY_MAP_BYTES, LIST] {
+        // With the kept buffer a frame has its head and two lengths besides the string.
+        let string = rng.bytes(FRAME_LIMIT - HEAD_LENGTH - 8);
+        bench.make_kept(&Asked::new(call, &[], &[&string]))?;
+    }
+    Ok(())
+}

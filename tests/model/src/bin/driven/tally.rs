@@ -1,0 +1,400 @@
+//! What the published calls can answer, and the shapes that have to be met.
+
+use ultra_model::driving::table::*;
+use ultra_model::driving::Answer;
+use ultra_model::format::{self, MODULE_NAME_WIDTH, NAME_WIDTH, PATH_WIDTH};
+use ultra_model::tally::{
+    adding, asking, set, Row, Tally, BEGINNING, COPYING, NONE, READING, STEPPING,
+};
+
+use crate::spelling::Asked;
+
+/// The calls from 1 on. A platform can have an absent member here, and a GUID of a record
+/// always has 16 bytes.
+pub const ROWS: &[Row; LAST as usize] = &[
+    asking("read", READING),
+    asking("Cursor::first", NONE),
+    asking("Cursor::step", STEPPING),
+    asking("attribute", READING),
+    asking("attribute_start", READING),
+    asking("attribute_part", NONE),
+    asking("copy_map", COPYING),
+    asking("copy_map_bytes", COPYING),
+    asking("command_line", NONE),
+    asking("command_line_part", NONE),
+    asking("module_holding", READING),
+    asking("begin", BEGINNING),
+    adding("add_platform", &[12, 13, 14]),
+    adding("add_kernel", &[13, 14, 15]),
+    adding("add_map", &[10, 12, 13, 15, 16]),
+    adding("add_module", &[11, 13, 14, 15]),
+    adding("add_command_line", &[10, 14]),
+    adding("add_framebuffer", &[10, 13, 15]),
+    adding("members::add_platform", &[12, 13, 14]),
+    adding("members::add_kernel", &[12, 13, 14, 15]),
+    adding("members::add_map", &[10, 12, 13, 15, 16]),
+    adding("members::add_module", &[11, 13, 14, 15]),
+    asking("list", set(&[0, 18])),
+    asking("listing_length", NONE),
+];
+
+ultra_model::shapes! {
+    BufferGiven: "calls lent the bytes given",
+    BufferKept: "calls lent the buffer kept",
+    KeptChanged: "calls lent the buffer kept, which a call before had changed",
+    BufferEmpty: "buffers of no bytes",
+    BufferPastTheRoom: "buffers longer than 65,536",
+    BufferLongest: "buffers of 131,072 bytes",
+    NumberWide: "numbers wider than their member",
+    ArrayFull: "texts of a record without a zero in their array",
+    ArrayJustFits: "texts of a record with one zero in their array",
+    ArrayAfterZero: "texts of a record with other bytes after a zero",
+    ArrayShort: "strings shorter than their array",
+    ArrayLong: "strings longer than their array",
+    GuidOther: "GUIDs of a record given in other than 16 bytes",
+    HigherHalfAbsent: "records without a higher half base",
+    DepthAbsent: "records without a depth",
+    DtbAbsent: "records without a dtb",
+    SmbiosAbsent: "records without an smbios",
+    AbsentWithNumber: "absent members with a number other than 0",
+    Incomplete: "platforms that are not complete",
+    MapBytesLeft: "maps of numbers with bytes left over",
+    MapLongest: "maps of 9,000 numbers",
+    OutputBytesLeft: "outputs of numbers with bytes left over",
+    OutputLongest: "outputs of 9,000 numbers",
+    MapOneShort: "outputs one number short of a map",
+    MapByteShort: "outputs one byte short of a map",
+    MapExact: "outputs of just a map",
+    MapLonger: "outputs longer than a map",
+    EmptyMapCopied: "empty maps copied",
+    ListingOneShort: "outputs one byte short of a listing",
+    ListingExact: "outputs of just a listing",
+    ListingLonger: "outputs longer than a listing",
+    ListingOfContext: "listings of a context",
+    ListingOfRefusal: "listings of a refusal",
+    StepToAttribute: "steps to an attribute",
+    StepToTheEnd: "steps to the end",
+    IndexPastTheCount: "attributes asked for at or past the count",
+    PlatformRecord: "platforms handed back",
+    KernelRecord: "kernels handed back",
+    MapRecord: "maps handed back, by their place",
+    ModuleRecord: "modules handed back",
+    LineRecord: "command lines handed back, by their place",
+    FramebufferRecord: "framebuffers handed back",
+    OtherRecord: "attributes of a type from 7 up handed back",
+    NonePresent: "platforms handed back without any late member",
+    BasePresent: "platforms handed back with a higher half base alone",
+    DepthPresent: "platforms handed back with a depth as their last member",
+    DtbPresent: "platforms handed back with a dtb as their last member",
+    AllPresent: "platforms handed back with all members",
+    TextJustFits: "texts handed back with one zero in their array",
+    TextAfterZero: "texts handed back without the bytes after their zero",
+    MapPart: "parts that are a map's entries",
+    EmptyMapPart: "parts that are a map of no entries",
+    LinePart: "parts that are a command line's text",
+    EmptyLinePart: "parts that are an empty command line",
+    NoPart: "parts of attributes without one",
+    PartOfRefused: "parts of refused buffers, and past the count",
+    Line: "command lines as their text",
+    EmptyLine: "empty command lines",
+    NoLine: "no command line",
+    PartOnce: "parts that occur once in their buffer",
+    ModuleFound: "addresses held by a module",
+    NoModule: "addresses held by none",
+    Rebuilt: "contexts built again from their reading",
+    UnknownCall: "malformed: a call that is not in the table",
+    OtherNumbers: "malformed: a number more or less",
+    OtherStrings: "malformed: a string more or less",
+    RestTooLong: "malformed: bytes after the last string",
+    RestTooShort: "malformed: bytes missing",
+    StringPastTheEnd: "malformed: a string that is longer than what follows",
+    CountsThatWrap: "malformed: counts that are right modulo 2^32",
+    BufferTooLong: "malformed: a buffer of more than 131,072 bytes",
+    MapTooLong: "malformed: a map or output of more than 9,000 numbers",
+}
+
+/// A call that both sides made.
+pub struct Made<'a> {
+    pub asked: &'a Asked,
+    pub answer: &'a Answer,
+    /// The buffer before the call.
+    pub before: &'a [u8],
+    /// Where the buffer was kept: whether a call had changed it since it was given.
+    pub kept: Option<bool>,
+    /// Whether it is an add, and its buffer was accepted.
+    pub accepted: bool,
+}
+
+impl Made<'_> {
+    fn number(&self) -> u64 {
+        self.answer.numbers[0]
+    }
+
+    fn value(&self) -> u64 {
+        self.answer.numbers[1]
+    }
+
+    fn given(&self) -> &[u8] {
+        self.asked.strings.first().map_or(&[], Vec::as_slice)
+    }
+}
+
+/// Counts shapes.
+struct Shapes<'a>(&'a mut Tally);
+
+impl Shapes<'_> {
+    fn met(&mut self, shape: Shape) {
+        self.0.shape(shape as usize);
+    }
+
+    fn met_if(&mut self, condition: bool, shape: Shape) {
+        if condition {
+            self.met(shape);
+        }
+    }
+}
+
+pub fn count(tally: &mut Tally, made: &Made) {
+    let call = made.asked.call;
+    tally.answer(call as usize - 1, made.number(), made.accepted);
+    let shapes = &mut Shapes(tally);
+    if call != FIRST {
+        buffer(shapes, made);
+    }
+    match call {
+        STEP => step(shapes, made),
+        ATTRIBUTE => attribute(shapes, made),
+        ATTRIBUTE_PART => part(shapes, made),
+        COPY_MAP | COPY_MAP_BYTES => copied(shapes, made),
+        COMMAND_LINE => line(shapes, made),
+        MODULE_HOLDING if made.number() == 0 => shapes.met(match made.value() {
+            0 => Shape::NoModule,
+            _ => Shape::ModuleFound,
+        }),
+        ADD_PLATFORM | MEMBERS_ADD_PLATFORM => platform(shapes, made),
+        ADD_KERNEL => kernel(shapes, made),
+        ADD_MODULE => array(shapes, made.given(), MODULE_NAME_WIDTH),
+        ADD_MAP => {
+            shapes.met_if(!made.given().len().is_multiple_of(8), Shape::MapBytesLeft);
+            shapes.met_if(made.given().len() / 8 == NUMBERS_LIMIT, Shape::MapLongest);
+        }
+        LIST => list(shapes, made),
+        _ => {}
+    }
+    shapes.met_if(has_wide_number(made.asked), Shape::NumberWide);
+}
+
+fn buffer(shapes: &mut Shapes, made: &Made) {
+    shapes.met(match made.kept {
+        None => Shape::BufferGiven,
+        Some(_) => Shape::BufferKept,
+    });
+    shapes.met_if(made.kept == Some(true), Shape::KeptChanged);
+    let length = made.before.len();
+    shapes.met_if(length == 0, Shape::BufferEmpty);
+    shapes.met_if(length > format::ROOM_LIMIT, Shape::BufferPastTheRoom);
+    shapes.met_if(length == BUFFER_LIMIT, Shape::BufferLongest);
+}
+
+/// Whether a number has bits past those of its member.
+fn has_wide_number(asked: &Asked) -> bool {
+    let widths: &[u32] = match asked.call {
+        STEP => &[32, 32],
+        ADD_PLATFORM | MEMBERS_ADD_PLATFORM => &[32, 16, 16, 64, 64, 64, 8, 64, 64],
+        ADD_KERNEL | MEMBERS_ADD_KERNEL => &[64, 64, 64, 64, 32, 32],
+        ADD_MODULE | MEMBERS_ADD_MODULE => &[32, 64, 64],
+        ADD_FRAMEBUFFER => &[32, 32, 32, 16, 16, 64],
+        _ => &[],
+    };
+    let mut members = asked.numbers.iter().zip(widths);
+    members.any(|(number, width)| number.checked_shr(*width).unwrap_or(0) != 0)
+}
+
+fn step(shapes: &mut Shapes, made: &Made) {
+    match made.answer.numbers[..3] {
+        [0, _, 1] => shapes.met(Shape::StepToAttribute),
+        [0, _, _] => shapes.met(Shape::StepToTheEnd),
+        _ => {}
+    }
+}
+
+/// The text that becomes an array of a record.
+fn array(shapes: &mut Shapes, string: &[u8], width: usize) {
+    shapes.met_if(string.len() < width, Shape::ArrayShort);
+    shapes.met_if(string.len() > width, Shape::ArrayLong);
+    let array = &string[..string.len().min(width)];
+    let zero = array.iter().position(|&byte| byte == 0);
+    let length = zero.unwrap_or(array.len());
+    shapes.met_if(length == width, Shape::ArrayFull);
+    let other_after = array[length..].iter().any(|&byte| byte != 0);
+    shapes.met_if(other_after, Shape::ArrayAfterZero);
+    shapes.met_if(length == width - 1 && !other_after, Shape::ArrayJustFits);
+}
+
+fn platform(shapes: &mut Shapes, made: &Made) {
+    let numbers = &made.asked.numbers;
+    if made.asked.call == MEMBERS_ADD_PLATFORM {
+        return shapes.met_if(numbers[4] == 0, Shape::Incomplete);
+    }
+    array(shapes, made.given(), NAME_WIDTH);
+    let absent = [
+        Shape::HigherHalfAbsent,
+        Shape::DepthAbsent,
+        Shape::DtbAbsent,
+        Shape::SmbiosAbsent,
+    ];
+    for (bit, shape) in absent.into_iter().enumerate() {
+        if numbers[4] >> bit & 1 == 0 {
+            shapes.met(shape);
+            shapes.met_if(numbers[5 + bit] != 0, Shape::AbsentWithNumber);
+        }
+    }
+}
+
+fn kernel(shapes: &mut Shapes, made: &Made) {
+    let strings = &made.asked.strings;
+    shapes.met_if(
+        strings[..2].iter().any(|guid| guid.len() != 16),
+        Shape::GuidOther,
+    );
+    array(shapes, &strings[2], PATH_WIDTH);
+}
+
+/// The map that an accepted buffer has is as long as 24 times the entries copied, or is seen by
+/// the number 18.
+fn copied(shapes: &mut Shapes, made: &Made) {
+    let length = made.given().len();
+    if made.asked.call == COPY_MAP {
+        shapes.met_if(!length.is_multiple_of(8), Shape::OutputBytesLeft);
+        shapes.met_if(length / 8 == NUMBERS_LIMIT, Shape::OutputLongest);
+    }
+    let whole = length / 8 * 8;
+    match made.number() {
+        0 => {
+            let needed = 24 * made.value() as usize;
+            shapes.met_if(needed == 0, Shape::EmptyMapCopied);
+            shapes.met_if(needed > 0 && whole == needed, Shape::MapExact);
+            shapes.met_if(needed > 0 && whole > needed, Shape::MapLonger);
+        }
+        18 => {
+            let needed = (whole + 8).is_multiple_of(24);
+            shapes.met_if(needed && length == whole, Shape::MapOneShort);
+            shapes.met_if((length + 1).is_multiple_of(24), Shape::MapByteShort);
+        }
+        _ => {}
+    }
+}
+
+fn list(shapes: &mut Shapes, made: &Made) {
+    let length = made.given().len();
+    match made.number() {
+        0 => {
+            let used = made.value() as usize;
+            shapes.met(match length == used {
+                true => Shape::ListingExact,
+                false => Shape::ListingLonger,
+            });
+            shapes.met(match made.answer.strings[0].starts_with(b"refused=") {
+                true => Shape::ListingOfRefusal,
+                false => Shape::ListingOfContext,
+            });
+        }
+        _ => {
+            let needed = ultra_model::listing::listing(made.before).len();
+            shapes.met_if(length + 1 == needed, Shape::ListingOneShort);
+        }
+    }
+}
+
+fn attribute(shapes: &mut Shapes, made: &Made) {
+    let numbers = &made.answer.numbers;
+    match (made.number(), made.value()) {
+        (0, _) => {}
+        (3, 1..) => return shapes.met(Shape::IndexPastTheCount),
+        _ => return,
+    }
+    shapes.met(match numbers[2] {
+        1 => Shape::PlatformRecord,
+        2 => Shape::KernelRecord,
+        3 => Shape::MapRecord,
+        4 => Shape::ModuleRecord,
+        5 => Shape::LineRecord,
+        6 => Shape::FramebufferRecord,
+        _ => Shape::OtherRecord,
+    });
+    if numbers[2] == 1 {
+        shapes.met(match numbers[11] {
+            0b0000 => Shape::NonePresent,
+            0b0001 => Shape::BasePresent,
+            0b0011 => Shape::DepthPresent,
+            0b0111 => Shape::DtbPresent,
+            _ => Shape::AllPresent,
+        });
+    }
+    // The texts by their place among the strings, and in the attribute.
+    for (kind, place, at) in [(1, 0, 16), (2, 3, 80), (4, 4, 16)] {
+        if numbers[2] == kind {
+            let field = &made.before[numbers[3] as usize + at..];
+            text(shapes, &made.answer.strings[place], field);
+        }
+    }
+}
+
+/// A text handed back, and the buffer from its field on.
+fn text(shapes: &mut Shapes, array: &[u8], field: &[u8]) {
+    let zero = array.iter().position(|&byte| byte == 0);
+    shapes.met_if(zero == Some(array.len() - 1), Shape::TextJustFits);
+    shapes.met_if(!field.starts_with(array), Shape::TextAfterZero);
+}
+
+/// Counts a part that is not empty and occurs once in its buffer, so that its bytes show its
+/// place.
+fn once(shapes: &mut Shapes, made: &Made) {
+    let part = &made.answer.strings[0][..];
+    if !part.is_empty() {
+        let places = made.before.windows(part.len());
+        let places = places.filter(|place| *place == part).take(2).count();
+        shapes.met_if(places == 1, Shape::PartOnce);
+    }
+}
+
+fn part(shapes: &mut Shapes, made: &Made) {
+    let [start, length] = [2, 3].map(|place| made.answer.numbers[place] as usize);
+    if start == 0 {
+        let read = ultra_model::questions::attribute(made.before, made.asked.numbers[0]);
+        return shapes.met(match read.is_ok() {
+            true => Shape::NoPart,
+            false => Shape::PartOfRefused,
+        });
+    }
+    let kind = format::u32_at(made.before, start - format::HEADER_SIZE);
+    shapes.met(match (kind == format::MAP, length) {
+        (true, 0) => Shape::EmptyMapPart,
+        (true, _) => Shape::MapPart,
+        (false, 0) => Shape::EmptyLinePart,
+        (false, _) => Shape::LinePart,
+    });
+    once(shapes, made);
+}
+
+fn line(shapes: &mut Shapes, made: &Made) {
+    shapes.met(match made.answer.numbers[2..4] {
+        [0, _] => Shape::NoLine,
+        [_, 0] => Shape::EmptyLine,
+        _ => Shape::Line,
+    });
+    once(shapes, made);
+}
+
+/// What was never met, and whether too few parts show their place.
+pub fn gaps(tally: &Tally) -> Vec<String> {
+    let mut gaps = tally.gaps();
+    let count = |shape: Shape| tally.met(shape as usize);
+    let parts = [Shape::MapPart, Shape::LinePart, Shape::Line].map(count);
+    let parts: u64 = parts.iter().sum();
+    let once = count(Shape::PartOnce);
+    if once * 10 < parts * 9 {
+        gaps.push(format!("of {parts} parts only {once} occur once"));
+    }
+    gaps
+}

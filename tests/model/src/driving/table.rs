@@ -1,0 +1,57 @@
+//! The published calls by their number.
+
+/// "whose buffer or map is longer than there is memory for"
+pub const BUFFER_LIMIT: usize = 131_072;
+/// "there may be at most 9,000 of them": numbers of a map, given or asked for.
+pub const NUMBERS_LIMIT: usize = 9_000;
+
+pub const READ: u32 = 1;
+pub const FIRST: u32 = 2;
+pub const STEP: u32 = 3;
+pub const ATTRIBUTE: u32 = 4;
+pub const ATTRIBUTE_START: u32 = 5;
+pub const ATTRIBUTE_PART: u32 = 6;
+pub const COPY_MAP: u32 = 7;
+pub const COPY_MAP_BYTES: u32 = 8;
+pub const COMMAND_LINE: u32 = 9;
+pub const COMMAND_LINE_PART: u32 = 10;
+pub const MODULE_HOLDING: u32 = 11;
+pub const BEGIN: u32 = 12;
+pub const ADD_PLATFORM: u32 = 13;
+pub const ADD_KERNEL: u32 = 14;
+pub const ADD_MAP: u32 = 15;
+pub const ADD_MODULE: u32 = 16;
+pub const ADD_COMMAND_LINE: u32 = 17;
+pub const ADD_FRAMEBUFFER: u32 = 18;
+pub const MEMBERS_ADD_PLATFORM: u32 = 19;
+pub const MEMBERS_ADD_KERNEL: u32 = 20;
+pub const MEMBERS_ADD_MAP: u32 = 21;
+pub const MEMBERS_ADD_MODULE: u32 = 22;
+pub const LIST: u32 = 23;
+pub const LISTING_LENGTH: u32 = 24;
+
+/// How many calls there are: 1 to this.
+pub const LAST: u32 = LISTING_LENGTH;
+
+/// How many numbers and strings a call is given, the buffer among them; none for a call that
+/// is not in the table.
+pub fn arguments(call: u32) -> Option<(usize, usize)> {
+    Some(match call {
+        FIRST => (0, 0),
+        READ | COMMAND_LINE | COMMAND_LINE_PART | BEGIN | LISTING_LENGTH => (0, 1),
+        ATTRIBUTE | ATTRIBUTE_START | ATTRIBUTE_PART | MODULE_HOLDING => (1, 1),
+        STEP => (2, 1),
+        COPY_MAP | COPY_MAP_BYTES | LIST => (0, 2),
+        ADD_PLATFORM | MEMBERS_ADD_PLATFORM => (9, 2),
+        ADD_KERNEL | MEMBERS_ADD_KERNEL => (6, 4),
+        ADD_MAP | MEMBERS_ADD_MAP | ADD_COMMAND_LINE => (0, 2),
+        ADD_MODULE | MEMBERS_ADD_MODULE => (3, 2),
+        ADD_FRAMEBUFFER => (6, 1),
+        _ => return None,
+    })
+}
+
+/// Whether the call's second string becomes a list of 64-bit numbers.
+pub fn takes_numbers(call: u32) -> bool {
+    matches!(call, COPY_MAP | ADD_MAP)
+}

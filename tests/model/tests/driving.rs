@@ -1,0 +1,285 @@
+//! Frames, and the driver program by the model: each length on both sides of what it may be,
+//! and what the page on the program says of its calls.
+
+#[allow(dead_code)] // A part of it is for the other tests.
+mod common;
+
+use common::{kernel, listed, numbers, platform, with};
+use ultra_model::driving::frame::*;
+use ultra_model::driving::table::*;
+use ultra_model::driving::{Answer, Driver, MALFORMED};
+
+fn frame(call: u32, numbers: &[u64], strings: &[&[u8]]) -> Vec<u8> {
+    let strings: Vec<Lent> = strings.iter().map(|string| Lent::Bytes(string)).collect();
+    let mut out = Vec::new();
+    put_frame(&mut out, call, numbers, &strings);
+    out
+}
+
+fn kept(call: u32, numbers: &[u64], strings: &[&[u8]]) -> Vec<u8> {
+    let strings = strings.iter().map(|string| Lent::Bytes(string));
+    let strings: Vec<Lent> = [Lent::Kept].into_iter().chain(strings).collect();
+    let mut out = Vec::new();
+    put_frame(&mut out, call, numbers, &strings);
+    out
+}
+
+/// The frame with another word at one of its places.
+fn with_word(mut frame: Vec<u8>, at: usize, word: u32) -> Vec<u8> {
+    frame[at..at + 4].copy_from_slice(&word.to_le_bytes());
+    frame
+}
+
+fn answer(call: u32, numbers: &[u64], strings: &[&[u8]]) -> Answer {
+    Driver::default().answer(&frame(call, numbers, strings))
+}
+
+fn is_malformed(frame: &[u8]) -> bool {
+    Driver::default().answer(frame).call == MALFORMED
+}
+
+#[test]
+fn a_frame_is_these_bytes() {
+    let bytes = [
+        3, 0, 0, 0, 2, 0, 0, 0, 1, 0, 0, 0, 23, 0, 0, 0, // Call, numbers, strings, rest.
+        1, 0, 0, 0, 0, 0, 0, 0, 0, 1, 0, 0, 0, 0, 0, 128, // 1, 2^63 + 256.
+        3, 0, 0, 0, 97, 98, 99, // "abc"
+    ];
+    assert_eq!(frame(3, &[1, 1 << 63 | 256], &[b"abc"]), bytes);
+    let parsed = Frame {
+        call: 3,
+        numbers: vec![1, 1 << 63 | 256],
+        strings: vec![Lent::Bytes(b"abc")],
+    };
+    assert_eq!(parse_frame(&bytes), Some(parsed));
+}
+
+#[test]
+fn frames_are_parsed_as_they_are_put() {
+    let strings: [&[Lent]; 5] = [
+        &[],
+        &[Lent::Kept],
+        &[Lent::Bytes(b"")],
+        &[Lent::Kept, Lent::Bytes(b""), Lent::Bytes(b"x")],
+        &[Lent::Bytes(b"xyz"), Lent::Bytes(&[0; 300])],
+    ];
+    for strings in strings {
+        for numbers in [&[][..], &[u64::MAX], &[1, 2, 3]] {
+            let mut bytes = Vec::new();
+            put_frame(&mut bytes, 77, numbers, strings);
+            let parsed = parse_frame(&bytes).unwrap();
+            assert_eq!((parsed.call, &parsed.numbers[..]), (77, numbers));
+            assert_eq!(parsed.strings, strings);
+        }
+    }
+}
+
+#[test]
+fn lengths_add_up_or_it_is_no_frame() {
+    let good = frame(3, &[1, 2], &[b"abc", b"de"]);
+    assert!(parse_frame(&good).is_some());
+    for length in 0..good.len() {
+        assert_eq!(parse_frame(&good[..length]), None, "{length} bytes");
+    }
+    assert_eq!(parse_frame(&[&good[..], &[0]].concat()), None);
+    // Counts and lengths one off, and counts that are right modulo 2^32.
+    for (at, words) in [
+        (4, &[1, 3, 2 + (1 << 29)][..]),
+        (8, &[1, 3, 2 + (1 << 30)]),
+        (32, &[2, 4, u32::MAX - 3]),
+        (39, &[1, 3, u32::MAX]),
+    ] {
+        for word in words {
+            let bytes = with_word(good.clone(), at, *word);
+            assert_eq!(parse_frame(&bytes), None, "{word} at {at}");
+        }
+    }
+}
+
+#[test]
+fn only_the_buffer_is_kept() {
+    let bytes = with_word(frame(8, &[], &[b"", b""]), 16, KEPT);
+    assert_eq!(parse_frame(&bytes).unwrap().strings[0], Lent::Kept);
+    let bytes = with_word(frame(8, &[], &[b"", b""]), 20, KEPT);
+    assert_eq!(parse_frame(&bytes), None);
+}
+
+#[test]
+fn a_frame_has_at_most_so_many_bytes() {
+    let head = |rest| Head {
+        call: 1,
+        numbers: 0,
+        strings: 1,
+        rest,
+    };
+    assert!(!head(1_048_576 - 16).is_too_long());
+    assert!(head(1_048_576 - 15).is_too_long());
+    assert!(head(u32::MAX).is_too_long());
+    assert_eq!(Head::of(&head(5).bytes()), head(5));
+}
+
+#[test]
+fn counts_are_the_tables() {
+    for call in 1..=LAST {
+        let (n, s) = arguments(call).unwrap();
+        let made = |n: usize, s: usize| frame(call, &vec![0; n], &vec![&[][..]; s]);
+        assert!(!is_malformed(&made(n, s)), "call {call}");
+        assert!(is_malformed(&made(n + 1, s)), "call {call}");
+        assert!(is_malformed(&made(n, s + 1)), "call {call}");
+        assert!(n == 0 || is_malformed(&made(n - 1, s)), "call {call}");
+        assert!(s == 0 || is_malformed(&made(n, s - 1)), "call {call}");
+    }
+    for call in [0, LAST + 1, 63, 257, u32::MAX] {
+        assert!(is_malformed(&frame(call, &[], &[b""])), "call {call}");
+    }
+}
+
+#[test]
+fn memory_is_so_long() {
+    let zeros = vec![0; 131_073];
+    assert!(!is_malformed(&frame(READ, &[], &[&zeros[..131_072]])));
+    assert!(is_malformed(&frame(READ, &[], &[&zeros])));
+    for call in [COPY_MAP, ADD_MAP] {
+        assert!(!is_malformed(&frame(call, &[], &[b"", &zeros[..72_007]])));
+        assert!(is_malformed(&frame(call, &[], &[b"", &zeros[..72_008]])));
+    }
+    for call in [COPY_MAP_BYTES, MEMBERS_ADD_MAP, ADD_COMMAND_LINE, LIST] {
+        assert!(!is_malformed(&frame(call, &[], &[b"", &zeros])));
+    }
+}
+
+#[test]
+fn the_buffer_is_kept() {
+    let mut driver = Driver::default();
+    assert_eq!(driver.answer(&kept(READ, &[], &[])).numbers, [1, 0, 0, 0]);
+    driver.answer(&frame(BEGIN, &[], &[&[7; 20]]));
+    assert_eq!(driver.buffer[..9], [1, 0, 0, 0, 0, 0, 0, 0, 7]);
+    driver.answer(&frame(FIRST, &[], &[]));
+    assert!(driver.answer(&frame(READ, &[0], &[b"x"])).call == MALFORMED);
+    let too_long = frame(ADD_MAP, &[], &[b"x", &[0; 72_008]]);
+    assert!(driver.answer(&too_long).call == MALFORMED);
+    let read = driver.answer(&kept(READ, &[], &[]));
+    assert_eq!((read.numbers[0], driver.buffer.len()), (4, 20));
+}
+
+#[test]
+fn the_program_ends() {
+    let read = frame(READ, &[], &[&listed()]);
+    let one = Driver::run(&read);
+    assert_eq!(Driver::run(&[]), []);
+    for length in 1..read.len() {
+        assert_eq!(Driver::run(&[&read, &read[..length]].concat()), one);
+    }
+    let malformed = frame(MALFORMED, &[], &[]);
+    let too_long = with_word(frame(READ, &[], &[b""]), 12, 1_048_561);
+    let ends = [&read[..], &too_long, &read].concat();
+    assert_eq!(Driver::run(&ends), [&one[..], &malformed].concat());
+    let unknown = frame(99, &[], &[]);
+    let goes_on = [&read[..], &unknown, &read].concat();
+    assert_eq!(Driver::run(&goes_on), [&one[..], &malformed, &one].concat());
+}
+
+#[test]
+fn the_listed_context_is_answered() {
+    let context = listed();
+    let ask = |call, numbers: &[u64], strings: &[&[u8]]| {
+        let strings = [&[&context[..]], strings].concat();
+        answer(call, numbers, &strings)
+    };
+    assert_eq!(ask(READ, &[], &[]).numbers, [0, 480, 1, 0]);
+    assert_eq!(answer(FIRST, &[], &[]).numbers, [0, 0, 0, 8]);
+    let step = ask(STEP, &[1 << 32 | 1, 96], &[]).numbers;
+    assert_eq!(step, [0, 432, 1, 2, 96, 336, 2, 432]);
+    let step = ask(STEP, &[4, 480], &[]).numbers;
+    assert_eq!(step, [0; 8]);
+    assert_eq!(ask(ATTRIBUTE_START, &[4], &[]).numbers, [3, 480]);
+    let part = ask(ATTRIBUTE_PART, &[2], &[]);
+    assert_eq!(part.numbers, [0, 0, 440, 24]);
+    assert_eq!(part.strings, [numbers(&[1_048_576, 1_048_576, 1])]);
+    let copied = ask(COPY_MAP, &[], &[&[9; 39]]);
+    assert_eq!(copied.numbers, [0, 1]);
+    assert_eq!(
+        copied.strings[0][16..],
+        [1, 0, 0, 0, 0, 0, 0, 0, 9, 9, 9, 9, 9, 9, 9, 9]
+    );
+    let copied = ask(COPY_MAP_BYTES, &[], &[&[9; 23]]);
+    assert_eq!(
+        (copied.numbers, copied.strings),
+        (vec![18, 480], vec![vec![9; 23]])
+    );
+    let line = ask(COMMAND_LINE, &[], &[]);
+    assert_eq!(
+        (line.numbers, line.strings),
+        (vec![0, 0, 472, 5], vec![b"quiet".to_vec()])
+    );
+    assert_eq!(ask(COMMAND_LINE_PART, &[], &[]).strings, [[0u8; 0]; 0]);
+    let length = ask(LISTING_LENGTH, &[], &[]).numbers[1];
+    let short = vec![9; length as usize - 1];
+    let list = ask(LIST, &[], &[&short]);
+    assert_eq!((list.numbers, list.strings), (vec![18, 0], vec![short]));
+}
+
+#[test]
+fn members_are_handed_back() {
+    let context = with(&[]);
+    let first = answer(ATTRIBUTE, &[0], &[&context]);
+    assert_eq!(first.numbers.len(), 31);
+    assert_eq!(first.numbers[..8], [0, 8, 1, 8, 88, 0, 0, 2]);
+    assert_eq!(first.numbers[11], 0b1111);
+    let widths: Vec<usize> = first.strings.iter().map(Vec::len).collect();
+    assert_eq!(widths, [32, 16, 16, 256, 64]);
+    let second = answer(ATTRIBUTE, &[1], &[&context]);
+    assert_eq!(second.numbers[16..22], [0, 0, 0, 2, 0, 0]);
+    assert_eq!(second.strings[3][..3], *b"/k\0");
+
+    for (size, present) in [(56, 0), (64, 1), (72, 3), (80, 7), (88, 15), (96, 15)] {
+        let context = common::context(&[platform(size), kernel()]);
+        let numbers = answer(ATTRIBUTE, &[0], &[&context]).numbers;
+        assert_eq!(numbers[11], present, "{size} bytes");
+    }
+}
+
+#[test]
+fn texts_of_records_are_arrays() {
+    let begun = [&[1, 0, 0, 0, 0, 0, 0, 0][..], &[0xEE; 88]].concat();
+    let add = |name: &[u8], present: u64| {
+        let members = [2, 1, 4, 0, present, 5, 6, 7, 8];
+        answer(ADD_PLATFORM, &members, &[&begun, name]).numbers
+    };
+    let full = [b'a'; 40];
+    assert_eq!(add(b"", 15), [0, 96]);
+    assert_eq!(add(&full[..31], 15), [0, 96]);
+    assert_eq!(add(&full[..32], 15), [14, 8]);
+    assert_eq!(add(b"ab\0\0", 15), [0, 96]);
+    assert_eq!(add(b"ab\0c", 15), [14, 8]);
+    // What is past the array is left out, be it a text or not.
+    assert_eq!(add(&full, 15), [14, 8]);
+    assert_eq!(add(&[&full[..31], b"\0bc"].concat(), 15), [0, 96]);
+    assert_eq!(add(b"ab", 0xF0 | 15), [0, 96]);
+    for absent in 0..15 {
+        assert_eq!(add(b"ab", absent), [12, 8], "present {absent}");
+    }
+}
+
+#[test]
+fn members_are_taken_as_they_are() {
+    let begun = [&[1, 0, 0, 0, 0, 0, 0, 0][..], &[0xEE; 88]].concat();
+    let add = |name: &[u8], complete: u64| {
+        let members = [1 << 32 | 2, 1, 4, 0, complete, 5, 256 | 6, 7, 8];
+        answer(MEMBERS_ADD_PLATFORM, &members, &[&begun, name]).numbers
+    };
+    assert_eq!(add(b"ab", 1), [0, 96]);
+    assert_eq!(add(b"ab", 1 << 32), [0, 96]);
+    assert_eq!(add(b"ab", 0), [12, 8]);
+    assert_eq!(add(b"ab\0", 1), [14, 8]);
+
+    let context = with(&[]);
+    let context = [&context[..], &[0xEE; 32]].concat();
+    let map = numbers(&[0, 4096, 1]);
+    let left_over = [&map[..], &[1; 7]].concat();
+    let add = |call, entries: &[u8]| answer(call, &[], &[&context, entries]).numbers;
+    assert_eq!(add(ADD_MAP, &map), [0, 464]);
+    assert_eq!(add(ADD_MAP, &left_over), [0, 464]);
+    assert_eq!(add(ADD_MAP, &map[..16]), [12, 432]);
+    assert_eq!(add(MEMBERS_ADD_MAP, &left_over), [12, 432]);
+}
