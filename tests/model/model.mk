@@ -15,7 +15,7 @@ N ?= 1000000
 N_DRIVEN ?= 300000
 N_LISTINGS ?= 4000
 SEED ?=
-MODEL := CARGO_TARGET_DIR=$(CURDIR)/target/model cargo
+MODEL := CARGO_TARGET_DIR=$(CURDIR)/target/model $(CARGO)
 MODEL_FLAGS := --quiet --release --offline --locked --manifest-path tests/model/Cargo.toml
 
 test-model:
