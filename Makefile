@@ -17,9 +17,9 @@ help:
 	@echo '  make call-driver          target/bin/call_driver, by which a program in any language makes every call'
 	@echo 'Check it'
 	@echo '  make tools                which tools are needed, and are they there'
-	@echo '  make test                 the gate: prove all from nothing, try the wrong programs, run every test; about half an hour'
+	@echo '  make test                 the gate: prove all from nothing, try the wrong programs, run every test; about 25 minutes'
 	@echo '  make tests                the tests without the proofs'
-	@echo '  make compare N=..         every call beside the independent implementation, on N inputs'
+	@echo '  make compare              every call beside the independent implementation; N=.. and N_DRIVEN=.. inputs, toward C and of Rattle'
 	@echo '  make fuzz SECONDS=..      the archive under libFuzzer'
 	@echo '  make bench                the speed of the archive'
 	@echo '  make where WORD=..        what states, proves and runs the sentences of document 01 that have a word'
@@ -51,7 +51,11 @@ tools:
 tools-there:
 	@$(TOOLS)
 
-figures:
+# need-cargo, need-python3, ..: one of them, before a target that uses it.
+need-%:
+	@$(TOOLS) $*
+
+figures: need-python3
 	@$(PYTHON) tests/figures.py
 
 # ---- What rt makes of proved crates ----
@@ -78,10 +82,11 @@ archive: $(ARCHIVE)
 
 # The listing of one context, by the proved program.
 list: context-there list-program
-	@target/bin/list_context <'$(CONTEXT)'
+	@target/bin/list_context <"$$CONTEXT"
 
 context-there:
-	@test -f '$(CONTEXT)' || { echo 'usage: make list CONTEXT=samples/listing.bin (a file that is there)' >&2; exit 2; }
+	@test -n "$$CONTEXT" || { echo 'usage: make list CONTEXT=samples/listing.bin' >&2; exit 2; }
+	@test -f "$$CONTEXT" || { echo "make list: there is no file $$CONTEXT" >&2; exit 2; }
 
 # ---- Proofs, layout and tests ----
 
@@ -104,11 +109,11 @@ tests: tools-there test-make test-published test-readme test-format test-traceab
 	@echo 'tests: all passed'
 
 # The targets themselves: what they say where a tool is missing or rt fails.
-test-make:
+test-make: need-python3
 	$(PYTHON) tests/make_test.py
 
 # The checker's own tests, and then the contracts: "no call relies on a check made before it", and each is what demand 2 runs the call by.
-test-published:
+test-published: need-python3
 	$(PYTHON) tests/published_test.py
 	$(PYTHON) tests/published.py
 
@@ -117,5 +122,5 @@ test-list: list-program
 	$(MAKE) --no-print-directory list CONTEXT=samples/listing.bin | cmp - samples/listing.txt
 
 # The driver program answers the example of its page as the page says.
-test-driver: call-driver
+test-driver: need-python3 call-driver
 	$(PYTHON) tests/driver.py crates/call_driver/README.md target/bin/call_driver

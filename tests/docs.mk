@@ -4,6 +4,6 @@
 
 .PHONY: test-readme
 
-test-readme:
+test-readme: need-python3
 	$(PYTHON) tests/readme_test.py
 	$(PYTHON) tests/readme.py

@@ -4,6 +4,6 @@
 
 .PHONY: test-format
 
-test-format:
+test-format: need-python3
 	$(PYTHON) tests/format_test.py
 	$(PYTHON) tests/format.py

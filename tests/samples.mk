@@ -7,6 +7,8 @@
 
 .PHONY: samples test-samples
 
+samples test-samples: need-python3
+
 samples:
 	$(PYTHON) samples/make_samples.py samples
 

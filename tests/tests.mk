@@ -65,7 +65,7 @@ test-layout: $(TESTS_OUT)/layout
 	$<
 test-edges: $(TESTS_OUT)/edges
 	$<
-test-valgrind: $(TESTS_OUT)/layout_on_heap $(TESTS_OUT)/edges_on_heap
+test-valgrind: need-valgrind $(TESTS_OUT)/layout_on_heap $(TESTS_OUT)/edges_on_heap
 	$(MEMCHECK) $(TESTS_OUT)/layout_on_heap
 	$(MEMCHECK) $(TESTS_OUT)/edges_on_heap
 test-sanitizers: $(TESTS_OUT)/layout_sanitized $(TESTS_OUT)/edges_sanitized

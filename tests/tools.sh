@@ -54,6 +54,8 @@ compiler() { # NAME COMMAND LANGUAGE PACKAGE WHAT-NEEDS-IT
 python_of_3_9() {
     use='the tests in Python'
     plain python3 "$PYTHON" python3 "$use" || return
+    # shellcheck disable=SC2086 # a command can have words
+    $PYTHON -c 'pass' 2>/dev/null || { lack python3 "$PYTHON does not run" "$use" python3 && return; }
     $PYTHON -c 'import sys; sys.exit(sys.version_info < (3, 9))' 2>/dev/null ||
         lack python3 "$(first_line "$PYTHON" --version), where 3.9 or newer is needed" "$use" python3
 }
@@ -113,7 +115,7 @@ The proofs decide: where they pass, it will do." >&2
     fi
     note "rt proves and compiles what is here. It is part of the Rattle kit (\`$wanted\`), no Debian package.
 To go on, put the kit's folder bin/ on the PATH: export PATH=KIT/bin:\$PATH; then \`rt version\` prints that line.
-Without it there is what only reads: make help, make figures."
+Without it there is what only reads: make help, make where, make figures."
 }
 
 check() { # NAME

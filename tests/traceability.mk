@@ -8,6 +8,8 @@
 
 .PHONY: where traceability test-traceability
 
+where traceability test-traceability: need-python3
+
 where:
 	@test -n "$$WORD" || { echo 'usage: make where WORD=4,096 (a word of a sentence, or a name)' >&2; exit 2; }
 	@$(PYTHON) tests/traceability.py --where "$$WORD"

@@ -17,6 +17,7 @@ page has a sentence twice or says that it is still to do, a line is too long, or
 import collections
 import os
 import re
+import signal
 import sys
 
 from short_names import Names, PROGRAM, read
@@ -186,7 +187,7 @@ class Table:
 
     def where(self, word):
         """The lines that say where a word or name is."""
-        told = [f"{word}: {path}:{number}" for path, number in self.names.places(word)]
+        told = [f"{word}: {at(path, number)}" for path, number in self.names.places(word)]
         for page, row in self.rows:
             items = [(label, name) for label, text in row.parts for name in names_of(label, text)]
             if any(word.lower() in text.lower() for text in [row.sentence, *(name for _, name in items)]):
@@ -199,7 +200,12 @@ class Table:
         path, number = (self.names.places(name) or [("nowhere", 0)])[0]
         program = PROGRAM.fullmatch(path)
         proof = f"crates/{program[1]}/proofs/{'/'.join(name.split('::')[1:])}/Proof.antt" if program else ""
-        return f"{path}:{number}" + (f", proof: {proof}" if proof in self.names.paths else "")
+        return at(path, number) + (f", proof: {proof}" if proof in self.names.paths else "")
+
+
+def at(path, number):
+    """A place; a whole file or folder has no line."""
+    return f"{path}:{number}" if number else path
 
 
 def example_names(text):
@@ -303,4 +309,6 @@ def main(arguments, root=os.path.dirname(os.path.dirname(os.path.abspath(__file_
 
 
 if __name__ == "__main__":
+    # As other programs do where nobody reads on: make where WORD=.. | head.
+    signal.signal(signal.SIGPIPE, signal.SIG_DFL)
     sys.exit(main(sys.argv[1:]))

@@ -7,6 +7,8 @@
 
 .PHONY: wrong-programs test-wrong-programs
 
+wrong-programs test-wrong-programs: need-python3
+
 wrong-programs:
 	$(PYTHON) tests/wrong_programs.py --write
 

@@ -103,7 +103,7 @@ SECTIONS = [
         ],
     ),
     (
-        "What edits will rest on",
+        "What calls that change a context will rest on",
         "No call edits a context yet. Crate byte_moves, the statements of crate ultra_edits, and byte_layout's of fields at places of\n"
         "their own are ready for them.",
         [

@@ -29,7 +29,7 @@ $(BENCH): $(BENCH_SOURCES) $(BENCH_OUT)/libwalks.a $(ARCHIVE)
 		$(CARGO) build --quiet --release --offline --locked --manifest-path tests/bench/Cargo.toml --target-dir $(BENCH_OUT)/cargo
 	touch $@
 
-bench: $(BENCH)
+bench: need-cargo need-valgrind need-python3 $(BENCH)
 	CC='$(CC)' VALGRIND='$(VALGRIND)' $(PYTHON) tests/bench/machine.py $(ARCHIVE) >$(BENCH_OUT)/machine.md
 	$(BENCH) >$(BENCH_OUT)/times.md
 	@cat $(BENCH_OUT)/machine.md $(BENCH_OUT)/times.md

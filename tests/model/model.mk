@@ -18,6 +18,8 @@ SEED ?=
 MODEL := CARGO_TARGET_DIR=$(CURDIR)/target/model $(CARGO)
 MODEL_FLAGS := --quiet --release --offline --locked --manifest-path tests/model/Cargo.toml
 
+test-model compare-archive compare-driven compare-listings: need-cargo
+
 test-model:
 	$(MODEL) test $(MODEL_FLAGS) --test cases --test listing --test driving
 
