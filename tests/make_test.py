@@ -248,10 +248,14 @@ class Made(MakeTest):
 class Used(MakeTest):
     def test_a_missing_context_is_said_before_anything_is_proved(self):
         self.rt_that(PASSES)
-        for words in ("make list", "make list CONTEXT=none.bin", "make -j4 list CONTEXT=none.bin"):
+        for words, told in (
+            ("make list", "usage: make list CONTEXT=samples/listing.bin"),
+            ("make list CONTEXT=none.bin", "there is no file none.bin"),
+            ("make -j4 list CONTEXT=it's", "there is no file it's"),
+        ):
             ran = self.run_it(words)
             self.assertNotEqual(ran.returncode, 0)
-            self.assertIn("usage: make list CONTEXT=samples/listing.bin", ran.stderr)
+            self.assertIn(told, ran.stderr)
         self.assertEqual(self.calls_of_rt(), [])
 
     def test_help_names_targets_that_there_are(self):
