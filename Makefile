@@ -121,6 +121,7 @@ test-published: need-python3
 test-list: list-program
 	$(MAKE) --no-print-directory list CONTEXT=samples/listing.bin | cmp - samples/listing.txt
 
-# The driver program answers the example of its page as the page says.
+# The driver's page: every published call, the program's counts and limits, and its example.
 test-driver: need-python3 call-driver
+	$(PYTHON) tests/driver_test.py
 	$(PYTHON) tests/driver.py crates/call_driver/README.md target/bin/call_driver

@@ -26,40 +26,50 @@ fn next(frame: &mut [u8]) -> usize {
     end
 }
 
-// Writes the answer that ends before `end`.
-fn write(out: &mut [u8], end: u32) {
+// Writes the answer that ends before `end`, and answers whether it could be written.
+fn write(out: &mut [u8], end: u32) -> bool {
     reply::finish(out, end);
     let n = end as usize;
     if out.len() < n {
-        return;
+        return false;
     }
-    io::write_all(STDOUT_FILENO, &out[0..n]);
+    io::write_all(STDOUT_FILENO, &out[0..n])
 }
 
-fn malformed(out: &mut [u8]) {
+fn malformed(out: &mut [u8]) -> bool {
     let end = reply::head(out, framed_calls::MALFORMED, 0, 0);
-    write(out, end);
+    write(out, end)
 }
 
-// Answers the call of a frame, and how long the buffer is from then on.
+// What is left of a call that was answered: how long the buffer is, and whether the answer could be written.
+struct Answered {
+    held: usize,
+    written: bool,
+}
+
+// Answers the call of a frame.
 fn answer(
     frame: &mut [u8],
     buffer: &mut [u8],
     held: usize,
     numbers: &mut [u64],
     out: &mut [u8],
-) -> usize {
+) -> Answered {
     if !framed_calls::suits(frame, buffer.len(), numbers.len()) {
-        malformed(out);
-        return held;
+        let written = malformed(out);
+        return Answered { held, written };
     }
     let length = framed_calls::load(frame, buffer, held);
     let end = framed_calls::make(frame, &mut buffer[0..length], numbers, out);
-    write(out, end);
-    length
+    let written = write(out, end);
+    Answered {
+        held: length,
+        written,
+    }
 }
 
-// Answers frame after frame until the input ends: 2^64 - 1 of them at most, since a program that is proved has to end.
+// Answers frame after frame until the input ends or an answer cannot be written: 2^64 - 1 frames at most, since a program that is proved has
+// to end.
 fn serve(frame: &mut [u8], buffer: &mut [u8], numbers: &mut [u64], out: &mut [u8]) {
     let mut held = 0;
     let mut left: u64 = 18446744073709551615;
@@ -72,7 +82,11 @@ fn serve(frame: &mut [u8], buffer: &mut [u8], numbers: &mut [u64], out: &mut [u8
             malformed(out);
             return;
         }
-        held = answer(&mut frame[0..end], buffer, held, numbers, out);
+        let answered = answer(&mut frame[0..end], buffer, held, numbers, out);
+        if !answered.written {
+            return;
+        }
+        held = answered.held;
         left -= 1;
     }
 }

@@ -39,7 +39,7 @@ fn first_at(frame: &[u8]) -> usize {
     HEAD + 8 * word(frame, NUMBERS) as usize
 }
 
-// Whether the first string is the one of the frame before.
+// Whether the first string is not given: the buffer that is there is meant.
 pub fn is_kept(frame: &[u8]) -> bool {
     word(frame, first_at(frame)) == KEPT
 }
@@ -47,10 +47,8 @@ pub fn is_kept(frame: &[u8]) -> bool {
 // How many bytes the string at `index`, whose length is at `at`, has in this frame.
 fn length(frame: &[u8], index: u32, at: usize) -> usize {
     let stored = word(frame, at);
-    if index == 0 {
-        if stored == KEPT {
-            return 0;
-        }
+    if index == 0 && stored == KEPT {
+        return 0;
     }
     stored as usize
 }

@@ -1,4 +1,6 @@
 // A frame into a lent output, part by part: each function puts its bytes from the place `to` on and answers the place after them.
+use crate::frame::HEAD;
+use crate::frame::REST;
 use text_output::put_all;
 
 fn word(out: &mut [u8], to: u32, number: u32) -> u32 {
@@ -43,10 +45,9 @@ pub fn numbers_string(out: &mut [u8], to: u32, given: &[u64]) -> u32 {
     numbers(out, at, given)
 }
 
-// The frame that ends before `end`: its head says how many bytes follow.
-pub fn finish(out: &mut [u8], end: u32) -> u32 {
-    if 16 <= end {
-        word(out, 12, end - 16);
+// Completes the head of the frame that ends before `end`: it says how many bytes follow it.
+pub fn finish(out: &mut [u8], end: u32) {
+    if HEAD as u32 <= end {
+        word(out, REST as u32, end - HEAD as u32);
     }
-    end
 }

@@ -18,7 +18,7 @@ pub fn value(answer: Answer) -> u64 {
     }
 }
 
-// The head, the numbers and the buffer, before `strings` strings more.
+// The head, the numbers and the buffer, which is the first of `strings` strings.
 pub fn begin(out: &mut [u8], call: u32, numbers: &[u64], strings: u32, buf: &[u8]) -> u32 {
     let mut at = reply::head(out, call, (numbers.len() % 4294967296) as u32, strings);
     at = reply::numbers(out, at, numbers);
@@ -30,9 +30,14 @@ pub fn numbers(out: &mut [u8], call: u32, numbers: &[u64], buf: &[u8]) -> u32 {
     begin(out, call, numbers, 1, buf)
 }
 
-// Number and value alone, and the buffer.
+// Number and value alone, and the buffer, which is the first of `strings` strings.
+pub fn begin_plain(out: &mut [u8], call: u32, answer: Answer, strings: u32, buf: &[u8]) -> u32 {
+    begin(out, call, &[number(answer), value(answer)], strings, buf)
+}
+
+// Number and value, and the buffer.
 pub fn plain(out: &mut [u8], call: u32, answer: Answer, buf: &[u8]) -> u32 {
-    numbers(out, call, &[number(answer), value(answer)], buf)
+    begin_plain(out, call, answer, 1, buf)
 }
 
 // Numbers, the buffer, and one string.

@@ -1,12 +1,13 @@
 // The calls by their numbers.
 ghost use Prim.Native.Nat.{_≤_};
 ghost use lib.ListN.{length};
+use crate::given;
 use call_frames::frame;
 
 // The answer to a frame that is no call.
 pub const MALFORMED: u32 = 4294967295;
 
-// More than a frame can have: what a call takes that there is not.
+// What a number takes that is no call's: more than a frame can have.
 const NONE: u32 = 4294967295;
 
 // How many numbers a call takes.
@@ -50,10 +51,8 @@ pub fn suits(frame: &[u8], bytes: usize, numbers: usize) -> bool {
     if bytes < buffer.len() {
         return false;
     }
-    if call != 7 {
-        if call != 15 {
-            return true;
-        }
+    if call != 7 && call != 15 {
+        return true;
     }
     let given = frame::string(frame, 1);
     given.len() / 8 <= numbers
@@ -63,14 +62,10 @@ pub fn suits(frame: &[u8], bytes: usize, numbers: usize) -> bool {
 pub fn load(frame: &[u8], buffer: &mut [u8], held: usize) -> usize
     ensures { λ r. ⌜ r ≤ length (now (buffer .exit)) ⌝ }
 {
-    let bytes = frame::string(frame, 0);
-    if strings_of(call_of(frame)) == 0 {
-        return crate::outputs::least(held, buffer.len());
+    if strings_of(call_of(frame)) == 0 || frame::is_kept(frame) {
+        return given::least(held, buffer.len());
     }
-    if frame::is_kept(frame) {
-        return crate::outputs::least(held, buffer.len());
-    }
-    crate::outputs::fill(buffer, bytes)
+    given::fill(buffer, frame::string(frame, 0))
 }
 
 // Makes the call and answers where the frame of its answer ends.
@@ -78,11 +73,10 @@ pub fn make(frame: &mut [u8], buf: &mut [u8], numbers: &mut [u64], out: &mut [u8
     let call = call_of(frame);
     match call {
         7 => crate::outputs::copy_map(frame, buf, numbers, out),
-        8 => crate::outputs::copy_map_bytes(frame, buf, out),
+        8 | 23 => crate::outputs::bytes(call, frame, buf, out),
         12 => crate::adds::begin(buf, out),
         13..=18 => crate::adds::make(call, frame, buf, numbers, out),
         19..=22 => crate::members::make(call, frame, buf, out),
-        23 => crate::outputs::list(frame, buf, out),
         _ => crate::questions::make(call, frame, buf, out),
     }
 }

@@ -1,4 +1,6 @@
-// What a frame gives, in the widths that the calls take.
+// What a frame gives, in the widths and arrays that the calls take.
+ghost use Prim.Native.Nat.{_≤_};
+ghost use lib.ListN.{length};
 use call_frames::frame;
 use ultra_format::OptionalU8;
 use ultra_format::OptionalU64;
@@ -29,27 +31,55 @@ pub fn narrow(present: bool, number: u8) -> OptionalU8 {
     OptionalU8::Absent
 }
 
+pub fn least(a: usize, b: usize) -> usize
+    ensures { λ r. ⌜ (r ≤ a) × (r ≤ b) ⌝ }
+{
+    if a < b { a } else { b }
+}
+
+// Puts as many of the bytes to the front of `out` as it holds, and answers how many.
+pub fn fill(out: &mut [u8], bytes: &[u8]) -> usize
+    ensures { λ r. ⌜ r ≤ length (now (out .exit)) ⌝ }
+{
+    let n = least(out.len(), bytes.len());
+    byte_layout::copy(bytes, 0, n, out);
+    n
+}
+
+// Takes a number out of each 8 bytes, as many as there are whole and as `numbers` holds; answers how many.
+pub fn load_numbers(bytes: &[u8], numbers: &mut [u64]) -> usize
+    ensures { λ r. ⌜ r ≤ length (now (numbers .exit)) ⌝ }
+{
+    let n = least(bytes.len() / 8, numbers.len());
+    let mut i = 0;
+    while i < n {
+        numbers[i] = words::load_u64(bytes, 8 * i);
+        i += 1;
+    }
+    n
+}
+
 // The string at `index` in an array, with zeros after it; what is more is left out.
 pub fn array_16(frame: &[u8], index: u32) -> [u8; 16] {
     let mut array = [0u8; 16];
-    crate::outputs::fill(&mut array, frame::string(frame, index));
+    fill(&mut array, frame::string(frame, index));
     array
 }
 
 pub fn array_32(frame: &[u8], index: u32) -> [u8; 32] {
     let mut array = [0u8; 32];
-    crate::outputs::fill(&mut array, frame::string(frame, index));
+    fill(&mut array, frame::string(frame, index));
     array
 }
 
 pub fn array_64(frame: &[u8], index: u32) -> [u8; 64] {
     let mut array = [0u8; 64];
-    crate::outputs::fill(&mut array, frame::string(frame, index));
+    fill(&mut array, frame::string(frame, index));
     array
 }
 
 pub fn array_256(frame: &[u8], index: u32) -> [u8; 256] {
     let mut array = [0u8; 256];
-    crate::outputs::fill(&mut array, frame::string(frame, index));
+    fill(&mut array, frame::string(frame, index));
     array
 }

@@ -1,72 +1,29 @@
 // The calls that are lent an output besides the buffer. The output lies where the frame gives it, which is its end.
-ghost use Prim.Native.Nat.{_≤_};
-ghost use lib.ListN.{length};
 use crate::answers;
+use crate::given;
 use call_frames::frame;
 use call_frames::reply;
+use refusals::Answer;
 
-pub fn least(a: usize, b: usize) -> usize
-    ensures { λ r. ⌜ (r ≤ a) × (r ≤ b) ⌝ }
-{
-    if a < b { a } else { b }
-}
-
-// Puts as many of the bytes to the front of `out` as it holds, and answers how many.
-pub fn fill(out: &mut [u8], bytes: &[u8]) -> usize
-    ensures { λ r. ⌜ r ≤ length (now (out .exit)) ⌝ }
-{
-    let n = least(out.len(), bytes.len());
-    byte_layout::copy(bytes, 0, n, out);
-    n
-}
-
-// Takes a number out of each 8 bytes, as many as there are whole and as `numbers` holds; answers how many.
-pub fn load_numbers(bytes: &[u8], numbers: &mut [u64]) -> usize
-    ensures { λ r. ⌜ r ≤ length (now (numbers .exit)) ⌝ }
-{
-    let n = least(bytes.len() / 8, numbers.len());
-    let mut i = 0;
-    while i < n {
-        numbers[i] = words::load_u64(bytes, 8 * i);
-        i += 1;
-    }
-    n
-}
-
+// Makes call 7, whose output is numbers.
 pub fn copy_map(frame: &[u8], buf: &[u8], numbers: &mut [u64], out: &mut [u8]) -> u32 {
-    let given = frame::string(frame, 1);
-    let n = load_numbers(given, numbers);
+    let n = given::load_numbers(frame::string(frame, 1), numbers);
     let answer = ultra_questions::copy_map(buf, &mut numbers[0..n]);
-    let at = answers::begin(
-        out,
-        7,
-        &[answers::number(answer), answers::value(answer)],
-        2,
-        buf,
-    );
+    let at = answers::begin_plain(out, 7, answer, 2, buf);
     reply::numbers_string(out, at, &numbers[0..n])
 }
 
-pub fn copy_map_bytes(frame: &mut [u8], buf: &[u8], out: &mut [u8]) -> u32 {
-    let start = frame::string_start(frame, 1);
-    let answer = ultra_questions::copy_map_bytes(buf, &mut frame[start..]);
-    answers::string(
-        out,
-        8,
-        &[answers::number(answer), answers::value(answer)],
-        buf,
-        &frame[start..],
-    )
+fn fill(call: u32, buf: &[u8], lent: &mut [u8]) -> Answer {
+    match call {
+        8 => ultra_questions::copy_map_bytes(buf, lent),
+        _ => ultra_listing::list(buf, lent),
+    }
 }
 
-pub fn list(frame: &mut [u8], buf: &[u8], out: &mut [u8]) -> u32 {
+// Makes one of the calls 8 and 23, whose output is bytes.
+pub fn bytes(call: u32, frame: &mut [u8], buf: &[u8], out: &mut [u8]) -> u32 {
     let start = frame::string_start(frame, 1);
-    let answer = ultra_listing::list(buf, &mut frame[start..]);
-    answers::string(
-        out,
-        23,
-        &[answers::number(answer), answers::value(answer)],
-        buf,
-        &frame[start..],
-    )
+    let answer = fill(call, buf, &mut frame[start..]);
+    let at = answers::begin_plain(out, call, answer, 2, buf);
+    reply::string(out, at, &frame[start..])
 }

@@ -71,8 +71,7 @@ fn step(frame: &[u8], buf: &[u8], out: &mut [u8]) -> u32 {
     }
 }
 
-fn attribute_part(frame: &[u8], buf: &[u8], out: &mut [u8]) -> u32 {
-    let index = frame::number(frame, 0);
+fn attribute_part(index: u64, buf: &[u8], out: &mut [u8]) -> u32 {
     let answer = ultra_questions::attribute(buf, index);
     let part = answer.part;
     let bytes = ultra_questions::attribute_part(buf, index);
@@ -116,7 +115,7 @@ pub fn make(call: u32, frame: &[u8], buf: &[u8], out: &mut [u8]) -> u32 {
         3 => step(frame, buf, out),
         4 => crate::attribute::make(given, buf, out),
         5 => answers::plain(out, 5, ultra_questions::attribute_start(buf, given), buf),
-        6 => attribute_part(frame, buf, out),
+        6 => attribute_part(given, buf, out),
         9 => command_line(buf, out),
         10 => command_line_part(buf, out),
         11 => answers::plain(out, 11, ultra_questions::module_holding(buf, given), buf),

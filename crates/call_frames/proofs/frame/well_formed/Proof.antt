@@ -1,9 +1,6 @@
 -- `frame::well_formed` ends.
 use Prim.Native.Nat.{_-_, _≤_}
-use mathlib.Core.Path.{_≡_}
-use native.Mathlib.Omega.{arith}
 use borrow.Author.Needs.{needs}
-use lib.ListN.{length}
 use Rattle.call_frames.proofs.frame.well_formed.Statement.{statement}
 use Rattle.call_frames.proofs.frame.well_formed.Tie as tie
 use Rattle.call_frames.proofs.frame.well_formed.Reads as reads

@@ -1,7 +1,6 @@
 -- `reply::numbers` is safe and ends.
 use Prim.Native.Nat.{_-_, _≤_}
 use mathlib.Core.Path.{_≡_}
-use native.Mathlib.Omega.{arith}
 use borrow.Author.Needs.{needs}
 use lib.ListN.{length}
 use Rattle.call_frames.proofs.reply.numbers.Statement.{statement}
