@@ -17,7 +17,7 @@ $(EXAMPLES_OUT):
 $(EXAMPLES_OUT)/loader $(EXAMPLES_OUT)/kernel: $(EXAMPLES_OUT)/%: examples/%.c include/ultra.h $(ARCHIVE) | $(EXAMPLES_OUT)
 	$(CC) $(EXAMPLES_CFLAGS) $< $(ARCHIVE) -o $@
 
-test-examples: $(EXAMPLES_OUT)/loader $(EXAMPLES_OUT)/kernel
+test-examples: need-cc $(EXAMPLES_OUT)/loader $(EXAMPLES_OUT)/kernel
 	@# The context of document 01's listing, byte for byte, and what a kernel sees in it.
 	$(EXAMPLES_OUT)/loader $(EXAMPLES_OUT)/context.bin
 	cmp $(EXAMPLES_OUT)/context.bin samples/listing.bin

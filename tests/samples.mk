@@ -7,11 +7,9 @@
 
 .PHONY: samples test-samples
 
-samples test-samples: need-python3
-
-samples:
+samples: need-python3
 	$(PYTHON) samples/make_samples.py samples
 
-test-samples: list-program
+test-samples: need-python3 list-program
 	$(PYTHON) samples/make_samples.py --check samples
 	$(PYTHON) tests/samples.py target/bin/list_context samples

@@ -31,7 +31,7 @@ FREESTANDING := -std=gnu11 -O1 $(TESTS_WARN) -Iinclude -ffreestanding -nostdlib 
 MEMCHECK := $(VALGRIND) -q --error-exitcode=99 --leak-check=full --errors-for-leak-kinds=definite
 
 .PHONY: test-c test-header test-symbols test-layout test-edges test-valgrind test-sanitizers test-freestanding test-stack \
-	test-seeds test-install install uninstall fuzz
+	test-seeds test-install install uninstall fuzz clang-there
 
 # ---- The tests ----
 
@@ -46,12 +46,12 @@ $(TESTS_OUT)/header_c: tests/c/header.c include/ultra.h $(ARCHIVE) | $(TESTS_OUT
 	$(CC) -std=c99 $(TESTS_WARN) -Iinclude $< $(ARCHIVE) -o $@
 $(TESTS_OUT)/header_cxx: tests/c/header.c include/ultra.h $(ARCHIVE) | $(TESTS_OUT)
 	$(CXX) -x c++ -std=c++17 $(TESTS_WARN) -Iinclude $< -x none $(ARCHIVE) -o $@
-test-header: $(TESTS_OUT)/header_c $(TESTS_OUT)/header_cxx
+test-header: need-cc need-c++ $(TESTS_OUT)/header_c $(TESTS_OUT)/header_cxx
 	$(TESTS_OUT)/header_c
 	$(TESTS_OUT)/header_cxx
 
 # What the archive needs of its host, and gives.
-test-symbols: $(ARCHIVE)
+test-symbols: need-python3 need-nm $(ARCHIVE)
 	$(PYTHON) tests/symbols.py $(ARCHIVE) include/ultra.h
 
 # The layout and the edges: as they are, on the heap under valgrind, and with sanitizers in the C side.
@@ -61,14 +61,14 @@ $(TESTS_OUT)/%_on_heap: tests/c/%.c $(TESTS_HEADERS) $(ARCHIVE) | $(TESTS_OUT)
 	$(CC) $(TESTS_CFLAGS) -DTESTS_ON_HEAP $< $(ARCHIVE) -o $@
 $(TESTS_OUT)/%_sanitized: tests/c/%.c $(TESTS_HEADERS) $(ARCHIVE) | $(TESTS_OUT)
 	$(CC) $(TESTS_CFLAGS) -DTESTS_ON_HEAP -fsanitize=address,undefined -fno-sanitize-recover=all $< $(ARCHIVE) -o $@
-test-layout: $(TESTS_OUT)/layout
-	$<
-test-edges: $(TESTS_OUT)/edges
-	$<
-test-valgrind: need-valgrind $(TESTS_OUT)/layout_on_heap $(TESTS_OUT)/edges_on_heap
+test-layout: need-cc $(TESTS_OUT)/layout
+	$(TESTS_OUT)/layout
+test-edges: need-cc $(TESTS_OUT)/edges
+	$(TESTS_OUT)/edges
+test-valgrind: need-cc need-valgrind $(TESTS_OUT)/layout_on_heap $(TESTS_OUT)/edges_on_heap
 	$(MEMCHECK) $(TESTS_OUT)/layout_on_heap
 	$(MEMCHECK) $(TESTS_OUT)/edges_on_heap
-test-sanitizers: $(TESTS_OUT)/layout_sanitized $(TESTS_OUT)/edges_sanitized
+test-sanitizers: need-cc $(TESTS_OUT)/layout_sanitized $(TESTS_OUT)/edges_sanitized
 	$(TESTS_OUT)/layout_sanitized
 	$(TESTS_OUT)/edges_sanitized
 
@@ -78,25 +78,25 @@ $(TESTS_OUT)/freestanding: tests/c/freestanding.c include/ultra.h $(ARCHIVE) | $
 $(TESTS_OUT)/freestanding.log: $(TESTS_OUT)/freestanding
 	$< >$@.new || { cat $@.new; exit 1; }
 	mv $@.new $@
-test-freestanding: $(TESTS_OUT)/freestanding.log
-	@cat $<
+test-freestanding: need-cc $(TESTS_OUT)/freestanding.log
+	@cat $(TESTS_OUT)/freestanding.log
 
 # The deepest stack of each call, by a script that is tested first, and held to what the freestanding run saw.
-test-stack: $(ARCHIVE) $(TESTS_OUT)/freestanding.log
+test-stack: need-cc need-python3 need-objdump need-ar $(ARCHIVE) $(TESTS_OUT)/freestanding.log
 	$(PYTHON) tests/stack_test.py $(TESTS_OUT)/stack
 	$(PYTHON) tests/stack.py $(ARCHIVE) $(STACK_LIMIT) $(TESTS_OUT)/freestanding.log
 
 # The fuzz target over its seeds, without a fuzzer.
 $(TESTS_OUT)/replay: tests/fuzz/fuzz.c tests/fuzz/replay.c $(TESTS_HEADERS) $(ARCHIVE) | $(TESTS_OUT)
 	$(CC) $(TESTS_CFLAGS) tests/fuzz/fuzz.c tests/fuzz/replay.c $(ARCHIVE) -o $@
-test-seeds: $(TESTS_OUT)/replay
+test-seeds: need-cc need-python3 $(TESTS_OUT)/replay
 	$(PYTHON) tests/fuzz/make_corpus.py --check tests/fuzz/corpus
 	rm -rf $(TESTS_OUT)/seeds
 	$(PYTHON) tests/fuzz/make_corpus.py $(TESTS_OUT)/seeds
 	$(TESTS_OUT)/replay tests/fuzz/corpus/* $(TESTS_OUT)/seeds/* >$(TESTS_OUT)/replay.log
 	@echo "replay: $$(wc -l <$(TESTS_OUT)/replay.log) inputs"
 
-test-install: $(ARCHIVE) list-program | $(TESTS_OUT)
+test-install: need-cc $(ARCHIVE) list-program | $(TESTS_OUT)
 	CC='$(CC)' tests/install.sh $(TESTS_OUT)/install $(MAKE) ARCHIVE=$(ARCHIVE)
 
 # ---- Installing ----
@@ -118,16 +118,18 @@ uninstall:
 # At fixed addresses, so that blocks.py can say where the archive's blocks are.
 FUZZ_FLAGS := -std=gnu11 -O1 -g $(TESTS_WARN) -Iinclude -fsanitize=fuzzer -no-pie
 
-$(FUZZ_OUT)/fuzz: tests/fuzz/fuzz.c tests/fuzz/blocks.c $(TESTS_HEADERS) $(ARCHIVE) | $(FUZZ_OUT)
+# Before the archive is proved.
+clang-there: | $(FUZZ_OUT)
 	@command -v $(FUZZ_CC) >/dev/null || { echo 'make fuzz needs clang: on Debian, apt-get install clang' >&2; exit 1; }
 	@echo 'int LLVMFuzzerTestOneInput(const unsigned char *d, unsigned long n) { return (int)(n & *d & 0); }' | \
 		$(FUZZ_CC) -x c -fsanitize=fuzzer - -o $(FUZZ_OUT)/probe || \
 		{ echo 'make fuzz needs libFuzzer: on Debian 12, apt-get install libclang-rt-14-dev' >&2; exit 1; }
+$(FUZZ_OUT)/fuzz: tests/fuzz/fuzz.c tests/fuzz/blocks.c $(TESTS_HEADERS) $(ARCHIVE) | $(FUZZ_OUT)
 	$(FUZZ_CC) $(FUZZ_FLAGS) tests/fuzz/fuzz.c tests/fuzz/blocks.c $(ARCHIVE) -o $@
 $(FUZZ_OUT)/blocks: $(FUZZ_OUT)/fuzz tests/fuzz/blocks.py tests/stack.py
 	$(PYTHON) tests/fuzz/blocks.py $(ARCHIVE) $< >$@.new
 	mv $@.new $@
-fuzz: $(FUZZ_OUT)/fuzz $(FUZZ_OUT)/blocks
+fuzz: clang-there $(FUZZ_OUT)/fuzz $(FUZZ_OUT)/blocks
 	mkdir -p $(FUZZ_OUT)/corpus
 	$(PYTHON) tests/fuzz/make_corpus.py $(FUZZ_OUT)/seeds
 	ULTRA_BLOCKS=$(FUZZ_OUT)/blocks $(FUZZ_OUT)/fuzz -max_total_time=$(SECONDS) -max_len=2048 -timeout=10 \

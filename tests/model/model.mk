@@ -18,18 +18,16 @@ SEED ?=
 MODEL := CARGO_TARGET_DIR=$(CURDIR)/target/model $(CARGO)
 MODEL_FLAGS := --quiet --release --offline --locked --manifest-path tests/model/Cargo.toml
 
-test-model compare-archive compare-driven compare-listings: need-cargo
-
-test-model:
+test-model: need-cargo
 	$(MODEL) test $(MODEL_FLAGS) --test cases --test listing --test driving
 
 compare: compare-archive compare-driven
 
-compare-archive: archive
+compare-archive: need-cargo archive
 	ULTRA_ARCHIVE_DIR=$(CURDIR)/target/staticlib $(MODEL) run $(MODEL_FLAGS) --features archive --bin compare -- $(N) $(SEED)
 
-compare-driven: call-driver
+compare-driven: need-cargo call-driver
 	$(MODEL) run $(MODEL_FLAGS) --bin driven -- target/bin/call_driver $(N_DRIVEN) $(SEED)
 
-compare-listings: list-program
+compare-listings: need-cargo list-program
 	$(MODEL) run $(MODEL_FLAGS) --bin listings -- target/bin/list_context $(N_LISTINGS) $(SEED)
