@@ -1,5 +1,5 @@
 #!/usr/bin/env python3
-"""Tests what the make targets say and do where a tool is missing, where rt fails and where there is nothing left to do.
+"""Tests what the make targets say and do where a tool is missing, where rt fails and where there is nothing left to do; and the figures.
 
 usage: make_test.py
 
@@ -265,6 +265,46 @@ class Used(MakeTest):
         known = set(re.findall(r"^([a-z-]+):", self.run_it("make -pq help").stdout, re.MULTILINE))
         self.assertIn("list", told)
         self.assertEqual(told - known, set())
+
+
+class Figures(MakeTest):
+    """`make figures`: a line for each, with how it is counted, also where the archive or what reads it is missing."""
+
+    def figures(self):
+        """(figure, how it is counted) by what is counted."""
+        ran = self.run_it("make figures")
+        self.assertEqual((ran.returncode, ran.stderr), (0, ""))
+        lines = [re.fullmatch(r"(\w.*?) +([\d,]+|-)  (\S.*)", line) for line in ran.stdout.splitlines()]
+        self.assertNotIn(None, lines, ran.stdout)
+        return {line[1]: (line[2], line[3]) for line in lines}
+
+    def make_archive(self):
+        """An archive of one function, which takes its return address and nothing else."""
+        folder = self.copy / "target/staticlib"
+        folder.mkdir(parents=True)
+        (folder / "one.c").write_text("int one(int n) { return n + 1; }\n", encoding="utf-8")
+        subprocess.run(["cc", "-O1", "-c", "one.c"], cwd=folder, check=True)
+        subprocess.run(["ar", "rcs", "libultra.a", "one.o"], cwd=folder, check=True)
+
+    def test_without_an_archive(self):
+        found = self.figures()
+        self.assertEqual((len(found), found["crates"]), (10, ("1", "folders of crates/")))
+        self.assertEqual(found["lines of programs that run it"], ("0", "src/ of cases_*, call_*, framed_calls, example_*"))
+        self.assertEqual(found["bytes of libultra.a"], ("-", "not made yet: make archive"))
+        code = (self.copy / "crates/words/src").rglob("*.rt")
+        self.assertEqual(found["lines of code"][0], str(sum(len(file.read_text(encoding="utf-8").splitlines()) for file in code)))
+
+    def test_with_an_archive(self):
+        self.make_archive()
+        found = self.figures()
+        size = (self.copy / "target/staticlib/libultra.a").stat().st_size
+        self.assertEqual((len(found), found["bytes of libultra.a"]), (11, (f"{size:,}", "target/staticlib/libultra.a")))
+        self.assertEqual(found["bytes of stack, deepest call"], ("8", "tests/stack.py"))
+
+    def test_without_objdump(self):
+        self.make_archive()
+        self.without("objdump")
+        self.assertEqual(self.figures()["bytes of stack, deepest call"], ("-", "objdump is not found: make tools"))
 
 
 if __name__ == "__main__":
