@@ -139,6 +139,18 @@ class Missing(MakeTest):
         self.assertIn("apt-get install valgrind binutils\n", ran.stderr)
         self.assertEqual(self.calls_of_rt(), [])
 
+    def test_a_target_names_its_tools_before_anything_is_proved_for_it(self):
+        self.rt_that(PASSES)
+        for target, name in (("compare-archive", "cargo"), ("compare-driven", "cargo"), ("compare-listings", "cargo"), ("bench", "valgrind"),
+                             ("test-edges", "cc"), ("test-examples", "cc"), ("test-samples", "python3"), ("test-driver", "python3"),
+                             ("test-stack", "objdump"), ("fuzz FUZZ_CC=none", "clang")):
+            with self.subTest(target):
+                self.without(name)
+                ran = self.run_it(f"make {target}")
+                self.assertNotEqual(ran.returncode, 0)
+                self.assertRegex(ran.stderr, f"{name} is not found|needs {name}")
+        self.assertEqual(self.calls_of_rt(), [])
+
     def test_the_gate_starts_where_nothing_is_missing(self):
         self.rt_that("exit 1")
         ran = self.run_it("make test")
