@@ -143,7 +143,7 @@ class Missing(MakeTest):
         self.rt_that(PASSES)
         for target, name in (("compare-archive", "cargo"), ("compare-driven", "cargo"), ("compare-listings", "cargo"), ("bench", "valgrind"),
                              ("test-edges", "cc"), ("test-examples", "cc"), ("test-samples", "python3"), ("test-driver", "python3"),
-                             ("test-stack", "objdump"), ("fuzz FUZZ_CC=none", "clang")):
+                             ("test-stack", "objdump"), ("fuzz", "nm"), ("fuzz", "python3"), ("fuzz FUZZ_CC=none", "clang")):
             with self.subTest(target):
                 self.without(name)
                 ran = self.run_it(f"make {target}")

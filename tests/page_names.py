@@ -8,7 +8,8 @@ On README.md, docs/*.md and the README.md of tests, samples and crates; not on d
     names         A word in backticks, and any word with an underscore, is a name that some file gives: a crate, a function, a definition,
                   a theorem, a target, a sample. `cases_*` stands for names that begin so.
     files         A file is the end of a path in the repository; what is in target/ is not looked at.
-    refusals      A number with a word in capitals, as 12 FORM, is one of include/ultra.h; the table of docs/CALLS.md has all, in order.
+    refusals      A number with a word in capitals, as 12 FORM, is one of include/ultra.h; the table of docs/CALLS.md has all, in order, and
+                  says when each is given in the words that crates/refusals/specs/Refusals.antt quotes, where it quotes the whole.
 On docs/PROMISES.md:
     statements    What a row or a sentence says is stated in a file of specs/ is there, and its proof in proofs/: the form is told under
                   "Names" on that page.
@@ -28,6 +29,7 @@ from readme import FENCE, README, found, prose, read
 PAGES = (README, "docs/*.md", "tests/README.md", "samples/README.md", "crates/*/README.md")
 HISTORY = "docs/CHANGES.md"
 PROMISES, CALLS, HEADER, LISTING = "docs/PROMISES.md", "docs/CALLS.md", "include/ultra.h", "samples/listing.txt"
+QUOTES = "crates/refusals/specs/Refusals.antt"
 # Words in backticks that no file here gives: of the languages, of tools, of the listing, of an example's contract.
 FOREIGN = set("requires ensures pub const type rt strlen black_box GLIBC_TUNABLES ultra-list cmdline half r len".split())
 # What stands for any name, in a path.
@@ -137,6 +139,15 @@ def refusal_table_problems(root):
     rows = [tuple(row["No."].split()) for row in tables(read(root / CALLS)) if "No." in row]
     if rows != refusals(root) or not rows:
         yield f"{CALLS}: the table of refusals is not that of {HEADER}"
+
+
+def wording_problems(root):
+    quoted = {name: quote for quote, name in re.findall(r'^-- "([^"]*)"\nabbrev pub ([A-Z]+) : ', read(root / QUOTES), re.M)}
+    for row in tables(read(root / CALLS)):
+        name = row.get("No.", " ").split()[-1:]
+        wanted = quoted.get(name[0]) if name else None
+        if wanted and row.get("Given when") != wanted:
+            yield f"{CALLS}: {name[0]} is given when `{row.get('Given when')}`, expected `{wanted}` ({QUOTES})"
 
 
 # ---- Statements ----
@@ -270,6 +281,7 @@ def problems(root):
         told += [*file_problems(text, names), *refusal_problems(text, refused)]
         yield from (f"{page.relative_to(root)}: {problem}" for problem in told)
     yield from refusal_table_problems(root)
+    yield from wording_problems(root)
     yield from (f"{PROMISES}: {problem}" for problem in statement_problems(root))
     yield from (f"{README}: {problem}" for problem in [*listing_problems(root), *trail_problems(root)])
 

@@ -48,6 +48,7 @@ int in_no_file;
 | 1 SHORT | below 8 |
 | 2 FORM | `requires` |
 """,
+    "crates/refusals/specs/Refusals.antt": '-- "below 8"\nabbrev pub SHORT : ℕ\nSHORT = 1\n\n-- "a part", 01\nabbrev pub FORM : ℕ\nFORM = 2\n',
     "docs/CHANGES.md": "`make gone` ran cases_gone, `Gone` and gone.rt: 3 GONE.\n",
     "docs/PROMISES.md": """# Promises
 
@@ -161,6 +162,8 @@ class Case(unittest.TestCase):
         self.slip("docs/CALLS.md", "| 2 FORM | `requires` |\n", "", table)
         self.slip("docs/CALLS.md", "No.", "Number", table)
         self.slip("docs/PROMISES.md", "1 SHORT", "1 FORM", "1 FORM is no refusal of include/ultra.h")
+        self.slip("docs/CALLS.md", "below 8", "below 9",
+                  "SHORT is given when `below 9`, expected `below 8` (crates/refusals/specs/Refusals.antt)")
 
     def test_stated(self):
         steps, proofs = "crates/ultra_rules/specs/Steps.antt", "crates/ultra_rules/proofs/Steps.antt"

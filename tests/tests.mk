@@ -129,7 +129,7 @@ $(FUZZ_OUT)/fuzz: tests/fuzz/fuzz.c tests/fuzz/blocks.c $(TESTS_HEADERS) $(ARCHI
 $(FUZZ_OUT)/blocks: $(FUZZ_OUT)/fuzz tests/fuzz/blocks.py tests/stack.py
 	$(PYTHON) tests/fuzz/blocks.py $(ARCHIVE) $< >$@.new
 	mv $@.new $@
-fuzz: clang-there $(FUZZ_OUT)/fuzz $(FUZZ_OUT)/blocks
+fuzz: need-python3 need-nm need-objdump need-ar clang-there $(FUZZ_OUT)/fuzz $(FUZZ_OUT)/blocks
 	mkdir -p $(FUZZ_OUT)/corpus
 	$(PYTHON) tests/fuzz/make_corpus.py $(FUZZ_OUT)/seeds
 	ULTRA_BLOCKS=$(FUZZ_OUT)/blocks $(FUZZ_OUT)/fuzz -max_total_time=$(SECONDS) -max_len=2048 -timeout=10 \

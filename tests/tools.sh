@@ -128,9 +128,9 @@ check() { # NAME
     python3) python_of_3_9 ;;
     cargo) rust ;;
     valgrind) plain valgrind "$VALGRIND" valgrind 'test-valgrind' ;;
-    objdump) plain objdump objdump binutils 'test-stack' ;;
-    nm) plain nm nm binutils 'test-symbols' ;;
-    ar) plain ar ar binutils 'test-stack' ;;
+    objdump) plain objdump objdump binutils 'test-stack and fuzz' ;;
+    nm) plain nm nm binutils 'test-symbols and fuzz' ;;
+    ar) plain ar ar binutils 'test-stack and fuzz' ;;
     *) echo "tools.sh: what is $1?" >&2 && exit 2 ;;
     esac
 }

@@ -193,6 +193,7 @@ class Table:
             if any(word.lower() in text.lower() for text in [row.sentence, *(name for _, name in items)]):
                 told.append(f'docs/traceability/{page}:{row.number}: "{row.sentence}"')
                 told += [f"  {kind_of(label):<9} {name:<50} {self.place(name)}" for label, name in items]
+                told += [f"  open      {text}" for label, text in row.parts if label == "open"]
         return told
 
     def place(self, name):
