@@ -1,0 +1,4 @@
+pub mod Again
+pub mod OneByOne
+pub mod Turns
+pub mod While
