@@ -1,8 +1,8 @@
--- `cases_foreign::full::sevens` ends and stays within the array.
+-- `cases_adds::full::sevens` ends and stays within the array.
 use Prim.Native.Nat.{_-_, _≤_}
 use borrow.Author.Needs.{needs}
-use Rattle.cases_foreign.proofs.full.sevens.Statement.{statement}
-use Rattle.cases_foreign.proofs.full.sevens.Tie as tie
+use Rattle.cases_adds.proofs.full.sevens.Statement.{statement}
+use Rattle.cases_adds.proofs.full.sevens.Tie as tie
 
 abbrev Inv-loop : tie.InvT-loop
 Inv-loop buf₀ i₀ buf i = i ≤ 1021
