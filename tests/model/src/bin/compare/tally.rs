@@ -24,6 +24,7 @@ pub const ROWS: &[Row; CALLS] = &[
 
 ultra_model::shapes! {
     StepToTheEnd: "steps to the end",
+    IndexPastTheCount: "attributes asked for at or past the count",
     EmptyMapCopied: "empty maps copied",
     LineFound: "command lines found",
     EmptyLineFound: "empty command lines found",
@@ -74,6 +75,8 @@ pub fn answer(tally: &mut Tally, call: &Call, answer: u64, buffer_accepted: bool
     tally.answer(call.id(), number, call.adds() && buffer_accepted);
     match (call, number, value) {
         (Call::Step { .. }, 0, 0) => met(tally, Shape::StepToTheEnd),
+        // A count above 1,024 is 3 at 0.
+        (Call::Attribute { .. }, 3, 1..) => met(tally, Shape::IndexPastTheCount),
         (Call::CopyMap { .. }, 0, 0) => met(tally, Shape::EmptyMapCopied),
         (Call::ModuleHolding { .. }, 0, 0) => met(tally, Shape::NoModule),
         (Call::ModuleHolding { .. }, 0, _) => met(tally, Shape::ModuleFound),
