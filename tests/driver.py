@@ -24,6 +24,7 @@ ROW = re.compile(r"^\| (\d+) \| `([\w:]+)` \| (\d+), (\d+) \|[^|\n]*\|[^|\n]*\| 
 LIMITS = [
     (r"it has at most ([\d,]+) bytes", lambda most: (1, 0, [bytes(most)])),
     (r"there may be at most ([\d,]+) of them", lambda most: (15, 0, [b"", bytes(8 * most)])),
+    (r"A frame may give at most ([\d,]+) modules", lambda most: (25, 0, [b"", bytes(88 * most)])),
     (r"A frame of a call has at most ([\d,]+) bytes", lambda most: (17, 0, [b"", bytes(most - 24)])),
 ]
 MALFORMED = 0xFFFFFFFF

@@ -7,23 +7,23 @@ import unittest
 import driver
 
 PAGE = """
-it has at most 40 bytes; there may be at most 3 of them. A frame of a call has at most 200 bytes.
+it has at most 40 bytes; there may be at most 3 of them. A frame may give at most 1 modules. A frame of a call has at most 200 bytes.
 
 | 1 | `a::read` | 0, 1 | | | 4, 1 | major, minor | |
 | 2 | `a::step` | 2, 1 | index, offset | | 8, 1 | | |
 """
 CALLS = ["a::read", "a::step"]
-SHAPES = {1: (0, 1, 4, 1), 2: (2, 1, 8, 1), 15: (0, 2, 2, 1), 17: (0, 2, 2, 1)}
+SHAPES = {1: (0, 1, 4, 1), 2: (2, 1, 8, 1), 15: (0, 2, 2, 1), 17: (0, 2, 2, 1), 25: (0, 2, 3, 1)}
 
 
 def program(frames, known=(1, 2)):
-    """What a program of two calls answers; 15 and 17 are there for the limits alone."""
+    """What a program of two calls answers; 15, 17 and 25 are there for the limits alone."""
     answers = []
     for sent in frames:
         call, n, s, _ = struct.unpack_from("<4I", sent)
         length = struct.unpack_from("<I", sent, 16)[0] if n == 0 and s else 0
-        fits = length <= 40 and (call != 15 or len(sent) - 24 <= 24) and len(sent) <= 200
-        taken = SHAPES.get(call, (None,) * 4) if call in (*known, 15, 17) else (None,) * 4
+        fits = length <= 40 and (call != 15 or len(sent) - 24 <= 24) and (call != 25 or len(sent) - 24 < 176) and len(sent) <= 200
+        taken = SHAPES.get(call, (None,) * 4) if call in (*known, 15, 17, 25) else (None,) * 4
         answers.append((call, *taken[2:]) if (n, s) == taken[:2] and fits else (driver.MALFORMED, 0, 0))
     return answers
 
@@ -62,7 +62,7 @@ class Shapes(unittest.TestCase):
 
 class Limits(unittest.TestCase):
     def test_other_limits(self):
-        for old, new in (("most 40", "most 41"), ("most 40", "most 39"), ("most 3 ", "most 4 "), ("most 200", "most 201")):
+        for old, new in (("most 40", "most 41"), ("most 40", "most 39"), ("most 3 ", "most 4 "), ("most 1 ", "most 2 "), ("most 200", "most 201")):
             with self.subTest(new):
                 self.assertTrue(driver.limit_problems(PAGE.replace(old, new), program))
 

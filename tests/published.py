@@ -36,7 +36,7 @@ AROUND = {"answerCrossed", "stepCrossed", "readingCrossed", "partCrossed", "cros
 WRITERS = {"Write": "runWrite", "WriteFromC": "runWriteFromC"}
 ASKERS = {"Question": "replyOf", "QuestionFromC": "replyFromC"}
 # What they make of a term: both halves of its pair, or the place and the bytes of a part.
-WRITES = {"answerAnd r": "(answer (r .0), r .1)", "numberAnd r": "(number (r .0), r .1)"}
+WRITES = {"answerAnd r": "(answer (r .0), r .1)", "severalAnd r": "(several (r .0), r .1)", "numberAnd r": "(number (r .0), r .1)"}
 LENDS = {"lentPart b p": "lent p (bytesAt b (p .start) (p .length))"}
 # What a call is made of.
 KINDS = {"run (write w) b": "runWrite w b", "run (ask q) b": "(replyOf q b, b)",
@@ -386,7 +386,7 @@ def run_by(case, buffer, right, replies):
     if case.runner in WRITERS.values():
         if len(right) == 2 and f"{right[0]} r" in WRITES:
             return "writes", right[1]
-        raise Unreadable(f"{place_of(case)}`{shown(right)}`, expected `answerAnd (..)` or `numberAnd (..)`")
+        raise Unreadable(f"{place_of(case)}`{shown(right)}`, expected `answerAnd (..)`, `severalAnd (..)` or `numberAnd (..)`")
     if len(right) == 3 and right[:2] == ("lentPart", buffer):
         return "part", right[2]
     if len(right) == 2 and right[0] in replies:

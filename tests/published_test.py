@@ -93,6 +93,7 @@ pub data Call : Type 0 where
 
 pub data Reply : Type 0 where
   answer : Answer → Reply
+  several : ModulesAdded → Reply
   stepped : Step → Reply
   lent : Part → List ℕ → Reply
   -- with the output
@@ -104,6 +105,9 @@ lentPart b p = lent p (bytesAt b (p .start) (p .length))
 
 abbrev pub answerAnd : Answer × List ℕ → Reply × List ℕ
 answerAnd r = (answer (r .0), r .1)
+
+abbrev pub severalAnd : ModulesAdded × List ℕ → Reply × List ℕ
+severalAnd r = (several (r .0), r .1)
 
 unfoldable pub runWrite : Write → List ℕ → Reply × List ℕ
 runWrite begin b = answerAnd (begun b)
@@ -494,6 +498,8 @@ class Demand2(Case):
                   "expected a case of Reply or `lentPart b`, with one term")
         self.change(CALLS, "(answer (r .0), r .1)", "(answer (r .0), [])")
         self.told("demand_2: `answerAnd r = (answer (r .0), [])`, expected `answerAnd r = (answer (r .0), r .1)`")
+        self.change(CALLS, "(several (r .0), r .1)", "(several (r .0), [])")
+        self.told("demand_2: `severalAnd r = (several (r .0), [])`, expected `severalAnd r = (several (r .0), r .1)`")
 
     def test_what_cannot_be_read(self):
         self.change(CALLS, "replyOf askSize b = number (length (listing b))", "replyOf askSize b = length (listing b)")
@@ -505,7 +511,8 @@ class Demand2(Case):
         self.change(CALLS, "stepped (stepOf b k)", "[]")
         self.told(f"Cursor::step, {CURSOR}: `replyOf` of `step`, {CALLS}: `[` in `[]`, expected names and parentheses alone")
         self.change(CALLS, "answerAnd (begun b)", "(answer (begun b .0), b)")
-        self.told(f"making::begin, {LIB}: `runWrite` of `begin`, {CALLS}: `answer (begun b .0), b`, expected `answerAnd (..)` or `numberAnd (..)`")
+        self.told(f"making::begin, {LIB}: `runWrite` of `begin`, {CALLS}: `answer (begun b .0), b`, expected `answerAnd (..)`, "
+                  "`severalAnd (..)` or `numberAnd (..)`")
         self.change(CALLS, "membersFormed (lineMembers text) = lineFormed text", "membersFormed (lineMembers text)")
         broken = f"{CALLS}: `membersFormed (lineMembers text)`, expected an equation"
         self.told(*(f"making::members::{name}, {MEMBERS}: {broken}" for name in ("add_module", "add_line")))

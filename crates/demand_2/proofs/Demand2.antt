@@ -19,19 +19,21 @@ use Rattle.ultra_format.specs.Plain.{writtenSize}
 use Rattle.ultra_format.specs.Additions.{bodyGiven, formed, givenCheck}
 use Rattle.refusals.specs.declared.Answer.{Answer}
 use Rattle.refusals.specs.declared.Answer.the-variants.{Done, Refused}
+use Rattle.ultra_format.specs.declared.records.ModuleRecord.{ModuleRecord}
 use Rattle.ultra_appending.specs.Appending.{appendOffset}
 use Rattle.ultra_adding.specs.Adding.{addedAt, addedMembers}
 use Rattle.ultra_building.specs.Building.{emptyHead, begun}
 use Rattle.ultra_acceptance.specs.Acceptance.{HoldsContext}
 use Rattle.ultra_acceptance.specs.Steps.{StepsThrough}
 use Rattle.ultra_acceptance.proofs.Steps.{stepping-through}
-use Rattle.demand_2.specs.Calls.{membersFormed, membersBody, Write.begin, Write.add, Write.addMembers}
+use Rattle.demand_2.specs.Calls.{membersFormed, membersBody, Write.begin, Write.add, Write.addMembers, Write.addModules}
 use Rattle.demand_2.specs.Calls.{Call, Call.write, Call.ask, Reply.answer, runWrite, run}
 use Rattle.demand_2.specs.CallsFromC.{AnyCall, inRattle, runAny}
-use Rattle.demand_2.specs.Arguments.{AllTyped}
+use Rattle.demand_2.specs.Arguments.{ModulesTyped, AllTyped}
 use Rattle.demand_2.specs.Model.{contextGiven, listAfterAll, anyReply}
 use Rattle.demand_2.specs.Demand2.{Follows, Undetermined, ReadsBack, bufferNow, listNow, Demand2}
 use Rattle.demand_2.proofs.Appending.{appends}
+use Rattle.demand_2.proofs.ModulesInTurn.{stays, appends-modules}
 use Rattle.demand_2.proofs.Following.{Keeps, length-given, begun-is, begin-follows, crosses, same-room, follows-all}
 use Rattle.demand_2.proofs.GivenMembers.{as-record}
 use Rattle.demand_2.proofs.Replies.{held-two, any-reply}
@@ -82,11 +84,12 @@ module _ (b : List ℕ) (ks : List AnyCall) (e : begun b .0 ≡ Done 8) (y : All
   reads h = reads-back (bufferNow b ks) (listNow b ks) (two h) (kept .0 .added)
 
 answers : (b : List ℕ) (ks : List AnyCall) (k : AnyCall) → begun b .0 ≡ Done 8 → AllTyped ks
+    → ((ms : List ModuleRecord) → inRattle k ≡ write (addModules ms) → ModulesTyped ms)
     → (Undetermined (roomOf b) (contextGiven (listNow b ks)) (inRattle k) → ⊥)
     → runAny k (bufferNow b ks) .0 ≡ anyReply (roomOf b) k (listNow b ks)
-answers b ks k e y n =
+answers b ks k e y t n =
     let q = same-room (bufferNow b ks) b (kept b ks e y .1) in
-    any-reply (bufferNow b ks) (listNow b ks) (follows b ks e y) k (λ u. n (subst (λ (r : ℕ). Undetermined r (contextGiven (listNow b ks)) (inRattle k)) q u))
+    any-reply (bufferNow b ks) (listNow b ks) (follows b ks e y) k (kept b ks e y .0) t (λ u. n (subst (λ (r : ℕ). Undetermined r (contextGiven (listNow b ks)) (inRattle k)) q u))
     ∙ ap (λ (r : ℕ). anyReply r k (listNow b ks)) q
 
 -- ---- a refusal changes nothing
@@ -112,6 +115,7 @@ refusals b (write begin) a e n = go (leb 8 (roomOf b)) e
     go false w = refl
 refusals b (write (add g)) a e n = kept-members b (formed g) (bodyGiven g) a e n
 refusals b (write (addMembers m)) a e n = kept-members b (membersFormed m) (membersBody m) a e n
+refusals b (write (addModules ms)) a e n = absurd (let z : _≡_ {A = ℕ} 0 1 = cc in omega arith)
 
 pub demand-2 : Demand2
 demand-2 =
@@ -125,7 +129,9 @@ demand-2 =
       crosses = crosses;
       members = as-record;
       refusals = refusals;
+      stays = stays;
       appends = appends;
+      appendsModules = appends-modules;
       readsBack = reads;
       rebuilds = λ b d c h p w. rebuilds b c h p d w;
     }

@@ -35,14 +35,16 @@ use Rattle.ultra_appending.specs.Appending.{appendCheck, appendOffset}
 use Rattle.ultra_adding.specs.Adding.{addedMembers, added}
 use Rattle.ultra_building.specs.Building.{begun}
 use Rattle.refusals.specs.declared.Answer.the-variants.{Done}
+use Rattle.ultra_format.specs.declared.records.ModuleRecord.{ModuleRecord}
+use Rattle.ultra_modules.specs.Modules.{inTurn}
 use Rattle.demand_3.specs.Witness.{everyPlatformRecord, everyKernelRecord, everyEntries, everyLine}
 use Rattle.ultra_acceptance.specs.Steps.{StepsThrough}
-use Rattle.demand_2.specs.Calls.{Members, membersBody, Write.begin, Write.add, Write.addMembers, Question, Question.read, Question.step}
+use Rattle.demand_2.specs.Calls.{Members, membersBody, Write.begin, Write.add, Write.addMembers, Write.addModules, Question, Question.read, Question.step}
 use Rattle.demand_2.specs.Calls.{Call, Call.write, Call.ask, Reply, Reply.number}
 use Rattle.demand_2.specs.CallsFromC.{QuestionFromC, QuestionFromC.ultraRead, QuestionFromC.ultraStep, CallFromC.askFromC, asked}
 use Rattle.demand_2.specs.CallsFromC.{AnyCall, AnyCall.fromC, inRattle, runAny, after}
-use Rattle.demand_2.specs.Arguments.{CallTyped, AllTyped}
-use Rattle.demand_2.specs.Model.{attributesGiven, contextGiven, typesAfter, giving, listAfterAll, repliesIn, replyTo, anyReply}
+use Rattle.demand_2.specs.Arguments.{ModulesTyped, CallTyped, AllTyped}
+use Rattle.demand_2.specs.Model.{attributesGiven, contextGiven, typesAfter, giving, modulesListed, listAfterAll, repliesIn, replyTo, anyReply}
 use Rattle.demand_2.specs.Demand2.{Undetermined, ReadsBack, Appended, adds, bufferNow, listNow}
 use Rattle.demand_2.specs.Witness.{sixAdditions, everyWrite, asks, asksFromC, everyQuestion, everyQuestionFromC, everyCall, ones, widestCalls, Built, EveryKind, FromCAndMembers, AnyArguments, one, two, TwoAreEnough, otherHead}
 use Rattle.demand_2.proofs.Additions.{given-type}
@@ -51,7 +53,7 @@ use Rattle.demand_2.proofs.ReadingBack.{at-given}
 use Rattle.demand_2.proofs.Demand2.{demand-2}
 
 -- ---- arguments of their types
-some-bytes : (l : List ℕ) → every (λ (x : ℕ). ltb x 256) l ≡ true → Bytes l
+pub some-bytes : (l : List ℕ) → every (λ (x : ℕ). ltb x 256) l ≡ true → Bytes l
 unfolding every
 some-bytes [] e i = omega arith
 some-bytes (x ∷ l) e zero = ltb-true x 256 (both-hold (ltb x 256) _ e .0)
@@ -65,10 +67,10 @@ ones-bytes (suc n) (suc i) = ones-bytes n i
 pub widest : AllTyped widestCalls
 unfolding AllTyped
 widest =
-    (record { kind = omega arith; loaderMajor = omega arith; loaderMinor = omega arith; name = (refl, ones-bytes 32); rsdp = omega arith; higherHalfBase = omega arith; depth = omega arith; dtb = omega arith; smbios = tt }, (record { physicalBase = omega arith; virtualBase = omega arith; size = omega arith; partitionType = omega arith; diskGuid = (refl, ones-bytes 16); partitionGuid = (refl, ones-bytes 16); diskIndex = omega arith; partitionIndex = omega arith; path = (refl, ones-bytes 256) }, ((omega arith, (omega arith, tt)), (record { kind = omega arith; name = (refl, ones-bytes 64); address = omega arith; size = omega arith }, (ones-bytes 9, (record { width = omega arith; height = omega arith; pitch = omega arith; bpp = omega arith; format = omega arith; address = omega arith }, (record { kindTyped = omega arith; majorTyped = omega arith; minorTyped = omega arith; nameTyped = ones-bytes 300; rsdpTyped = omega arith; baseTyped = omega arith; depthTyped = omega arith; dtbTyped = omega arith; smbiosTyped = omega arith }, (record { physicalTyped = omega arith; virtualTyped = omega arith; sizeTyped = omega arith; partitionTypeTyped = omega arith; diskTyped = ones-bytes 17; partitionTyped = ones-bytes 300; diskIndexTyped = omega arith; partitionIndexTyped = omega arith; pathTyped = ones-bytes 300 }, (ones-bytes 25, ((omega arith, ones-bytes 300, omega arith, omega arith), tt))))))))))
+    (record { kind = omega arith; loaderMajor = omega arith; loaderMinor = omega arith; name = (refl, ones-bytes 32); rsdp = omega arith; higherHalfBase = omega arith; depth = omega arith; dtb = omega arith; smbios = tt }, (record { physicalBase = omega arith; virtualBase = omega arith; size = omega arith; partitionType = omega arith; diskGuid = (refl, ones-bytes 16); partitionGuid = (refl, ones-bytes 16); diskIndex = omega arith; partitionIndex = omega arith; path = (refl, ones-bytes 256) }, ((omega arith, (omega arith, tt)), (record { kind = omega arith; name = (refl, ones-bytes 64); address = omega arith; size = omega arith }, (ones-bytes 9, (record { width = omega arith; height = omega arith; pitch = omega arith; bpp = omega arith; format = omega arith; address = omega arith }, (record { kindTyped = omega arith; majorTyped = omega arith; minorTyped = omega arith; nameTyped = ones-bytes 300; rsdpTyped = omega arith; baseTyped = omega arith; depthTyped = omega arith; dtbTyped = omega arith; smbiosTyped = omega arith }, (record { physicalTyped = omega arith; virtualTyped = omega arith; sizeTyped = omega arith; partitionTypeTyped = omega arith; diskTyped = ones-bytes 17; partitionTyped = ones-bytes 300; diskIndexTyped = omega arith; partitionIndexTyped = omega arith; pathTyped = ones-bytes 300 }, (ones-bytes 25, ((omega arith, ones-bytes 300, omega arith, omega arith), ((record { kind = omega arith; name = (refl, ones-bytes 64); address = omega arith; size = omega arith }, tt), tt)))))))))))
 
 -- ---- calls of every kind
-joined : (ks js : List AnyCall) → AllTyped ks → AllTyped js → AllTyped (ks ++ js)
+pub joined : (ks js : List AnyCall) → AllTyped ks → AllTyped js → AllTyped (ks ++ js)
 unfolding AllTyped
 joined [] js y z = z
 joined (k ∷ ks) js y z = (y .0, joined ks js (y .1) z)
@@ -87,7 +89,7 @@ module _ (typed : AllTyped (adds sixAdditions)) where
   writes-typed : AllTyped everyWrite
   unfolding AllTyped every adds
   writes-typed =
-      (typed .0, (record { physicalTyped = omega arith; virtualTyped = omega arith; sizeTyped = omega arith; partitionTypeTyped = omega arith; diskTyped = some-bytes (zeros 16) refl; partitionTyped = some-bytes (zeros 16) refl; diskIndexTyped = omega arith; partitionIndexTyped = omega arith; pathTyped = some-bytes (47 ∷ []) refl }, (tt, (tt, (record { kindTyped = omega arith; majorTyped = omega arith; minorTyped = omega arith; nameTyped = some-bytes (98 ∷ []) refl; rsdpTyped = omega arith; baseTyped = omega arith; depthTyped = omega arith; dtbTyped = omega arith; smbiosTyped = omega arith }, (record { physicalTyped = omega arith; virtualTyped = omega arith; sizeTyped = omega arith; partitionTypeTyped = omega arith; diskTyped = some-bytes (everyKernelRecord .kernel .«disk_guid») refl; partitionTyped = some-bytes (everyKernelRecord .kernel .«partition_guid») refl; diskIndexTyped = omega arith; partitionIndexTyped = omega arith; pathTyped = some-bytes (47 ∷ 107 ∷ 195 ∷ 169 ∷ []) refl }, (some-bytes everyEntries refl, ((omega arith, some-bytes (109 ∷ []) refl, omega arith, omega arith), (some-bytes everyLine refl, (typed .1 .1 .1 .1 .1 .0, (record { kindTyped = omega arith; majorTyped = omega arith; minorTyped = omega arith; nameTyped = some-bytes [] refl; rsdpTyped = omega arith; baseTyped = omega arith; depthTyped = omega arith; dtbTyped = omega arith; smbiosTyped = omega arith }, (record { kindTyped = omega arith; majorTyped = omega arith; minorTyped = omega arith; nameTyped = some-bytes [] refl; rsdpTyped = omega arith; baseTyped = omega arith; depthTyped = omega arith; dtbTyped = omega arith; smbiosTyped = omega arith }, (typed .1 .0, (record { physicalTyped = omega arith; virtualTyped = omega arith; sizeTyped = omega arith; partitionTypeTyped = omega arith; diskTyped = some-bytes [] refl; partitionTyped = some-bytes [] refl; diskIndexTyped = omega arith; partitionIndexTyped = omega arith; pathTyped = some-bytes (47 ∷ []) refl }, ((omega arith, (omega arith, tt)), (some-bytes (0 ∷ []) refl, (typed .1 .1 .1 .0, ((omega arith, some-bytes [] refl, omega arith, omega arith), (some-bytes [] refl, (typed .1 .1 .1 .1 .1 .0, tt))))))))))))))))))))
+      (typed .0, (record { physicalTyped = omega arith; virtualTyped = omega arith; sizeTyped = omega arith; partitionTypeTyped = omega arith; diskTyped = some-bytes (zeros 16) refl; partitionTyped = some-bytes (zeros 16) refl; diskIndexTyped = omega arith; partitionIndexTyped = omega arith; pathTyped = some-bytes (47 ∷ []) refl }, ((typed .1 .1 .1 .0, (typed .1 .1 .1 .0, tt)), (tt, (tt, (record { kindTyped = omega arith; majorTyped = omega arith; minorTyped = omega arith; nameTyped = some-bytes (98 ∷ []) refl; rsdpTyped = omega arith; baseTyped = omega arith; depthTyped = omega arith; dtbTyped = omega arith; smbiosTyped = omega arith }, (record { physicalTyped = omega arith; virtualTyped = omega arith; sizeTyped = omega arith; partitionTypeTyped = omega arith; diskTyped = some-bytes (everyKernelRecord .kernel .«disk_guid») refl; partitionTyped = some-bytes (everyKernelRecord .kernel .«partition_guid») refl; diskIndexTyped = omega arith; partitionIndexTyped = omega arith; pathTyped = some-bytes (47 ∷ 107 ∷ 195 ∷ 169 ∷ []) refl }, (some-bytes everyEntries refl, ((omega arith, some-bytes (109 ∷ []) refl, omega arith, omega arith), (some-bytes everyLine refl, (typed .1 .1 .1 .1 .1 .0, (tt, (record { kindTyped = omega arith; majorTyped = omega arith; minorTyped = omega arith; nameTyped = some-bytes [] refl; rsdpTyped = omega arith; baseTyped = omega arith; depthTyped = omega arith; dtbTyped = omega arith; smbiosTyped = omega arith }, (record { kindTyped = omega arith; majorTyped = omega arith; minorTyped = omega arith; nameTyped = some-bytes [] refl; rsdpTyped = omega arith; baseTyped = omega arith; depthTyped = omega arith; dtbTyped = omega arith; smbiosTyped = omega arith }, (typed .1 .0, (record { physicalTyped = omega arith; virtualTyped = omega arith; sizeTyped = omega arith; partitionTypeTyped = omega arith; diskTyped = some-bytes [] refl; partitionTyped = some-bytes [] refl; diskIndexTyped = omega arith; partitionIndexTyped = omega arith; pathTyped = some-bytes (47 ∷ []) refl }, ((omega arith, (omega arith, tt)), (some-bytes (0 ∷ []) refl, (typed .1 .1 .1 .0, ((omega arith, some-bytes [] refl, omega arith, omega arith), ((typed .1 .1 .1 .0, tt), (some-bytes [] refl, (typed .1 .1 .1 .1 .1 .0, tt)))))))))))))))))))))))
 
   every-typed : AllTyped everyCall
   every-typed =
@@ -99,8 +101,15 @@ abbrev Lists : ℕ → Type 0
 Lists room = listAfterAll room everyCall [] ≡ sixAdditions
 
 every-list : Lists 640 × Lists 65536
-unfolding listAfterAll asks asksFromC giving attributesGiven typesAfter appendCheck placeCheck placed occurs bodyGiven entriesGiven trimmed writtenSize givenCheck bodyCheck sizeSuits values kernelValues moduleValues framebufferValues bppSuits texts asciiText pathText every ranges ordered entriesOrdered total numbers numberAt numbersAt
+unfolding listAfterAll asks asksFromC modulesListed inTurn giving attributesGiven typesAfter appendCheck placeCheck placed occurs bodyGiven entriesGiven trimmed writtenSize givenCheck bodyCheck sizeSuits values kernelValues moduleValues framebufferValues bppSuits texts asciiText pathText every ranges ordered entriesOrdered total numbers numberAt numbersAt
 every-list = (refl, refl)
+
+-- of other calls than several modules nothing is asked
+abbrev OtherThanModules : AnyCall → Type 0
+OtherThanModules k = (ms : List ModuleRecord) → inRattle k ≡ write (addModules ms) → ModulesTyped ms
+
+a-question : (q : QuestionFromC) → OtherThanModules (fromC (askFromC q))
+a-question q ms e = absurd (let z : _≡_ {A = ℕ} 0 1 = cc in omega arith)
 
 -- ---- the buffer, and what is answered of it
 module _ (typed : AllTyped (adds sixAdditions)) (context : contextGiven sixAdditions ≡ sixTypes) (b : List ℕ) (room : ℕ) (r : roomOf b ≡ room) (l : Lists room) (long : 8 ≤ length b) where
@@ -116,10 +125,10 @@ module _ (typed : AllTyped (adds sixAdditions)) (context : contextGiven sixAddit
       subst (λ (c : Context). take (used c) (bufferNow b everyCall) ≡ written c) (ap contextGiven list-now ∙ context) (demand-2 .follows b everyCall begins (every-typed typed) .bytes)
       ∙ six-types-written
 
-  replied-now : (k : AnyCall) → (Undetermined room (contextGiven sixAdditions) (inRattle k) → ⊥) → runAny k (bufferNow b everyCall) .0 ≡ anyReply room k sixAdditions
-  replied-now k n =
+  replied-now : (k : AnyCall) → OtherThanModules k → (Undetermined room (contextGiven sixAdditions) (inRattle k) → ⊥) → runAny k (bufferNow b everyCall) .0 ≡ anyReply room k sixAdditions
+  replied-now k y n =
       let q : Undetermined (roomOf b) (contextGiven (listNow b everyCall)) (inRattle k) ≡ Undetermined room (contextGiven sixAdditions) (inRattle k) = λ i. Undetermined (r i) (contextGiven (list-now i)) (inRattle k) in
-      demand-2 .answers b everyCall k begins (every-typed typed) (λ u. n (subst (λ (t : Type 0). t) q u)) ∙ (λ i. anyReply (r i) k (list-now i))
+      demand-2 .answers b everyCall k begins (every-typed typed) y (λ u. n (subst (λ (t : Type 0). t) q u)) ∙ (λ i. anyReply (r i) k (list-now i))
 
 -- ---- calls whose answer the list determines
 same-cursor : (i o : ℕ) (j : Cursor) → ask (step (cursorAt i o)) ≡ ask (step j) → (j .index ≡ i) × (j .offset ≡ o)
@@ -152,18 +161,18 @@ every-kind w =
           let n = demand-2 .sameLength b everyCall (demand-2 .begins b (omega arith) .0) (every-typed (w .typed)) in
           sym (take-all 640 (bufferNow b everyCall) (omega arith)) ∙ front (w .typed) (w .list) b 640 (omega arith) (every-list .0) (omega arith);
       long = λ b e. front (w .typed) (w .list) b 65536 (omega arith) (every-list .1) (omega arith);
-      read = λ b e. least b e (fromC (askFromC ultraRead)) (no-step 640) ∙ replied .0;
-      last = λ b e. least b e (fromC (askFromC (ultraStep 5 608))) (determined 640 5 608 (λ h i j k. omega arith)) ∙ replied .2;
-      inside = λ b e. least b e (fromC (askFromC (ultraStep 0 16))) (determined 640 0 16 (λ h i j k. omega arith)) ∙ replied .1;
-      end = λ b e. greatest b e (fromC (askFromC (ultraStep 6 640))) (determined 65536 6 640 (λ h i j k. omega arith)) ∙ replied .3;
-      pastRoom = λ b e. least b e (fromC (askFromC (ultraStep 0 640))) (determined 640 0 640 (λ h i j k. omega arith)) ∙ replied .4;
-      crooked = λ b e. greatest b e (fromC (askFromC (ultraStep 0 644))) (determined 65536 0 644 (λ h i j k. omega arith)) ∙ replied .5;
+      read = λ b e. least b e (fromC (askFromC ultraRead)) (a-question ultraRead) (no-step 640) ∙ replied .0;
+      last = λ b e. least b e (fromC (askFromC (ultraStep 5 608))) (a-question (ultraStep 5 608)) (determined 640 5 608 (λ h i j k. omega arith)) ∙ replied .2;
+      inside = λ b e. least b e (fromC (askFromC (ultraStep 0 16))) (a-question (ultraStep 0 16)) (determined 640 0 16 (λ h i j k. omega arith)) ∙ replied .1;
+      end = λ b e. greatest b e (fromC (askFromC (ultraStep 6 640))) (a-question (ultraStep 6 640)) (determined 65536 6 640 (λ h i j k. omega arith)) ∙ replied .3;
+      pastRoom = λ b e. least b e (fromC (askFromC (ultraStep 0 640))) (a-question (ultraStep 0 640)) (determined 640 0 640 (λ h i j k. omega arith)) ∙ replied .4;
+      crooked = λ b e. greatest b e (fromC (askFromC (ultraStep 0 644))) (a-question (ultraStep 0 644)) (determined 65536 0 644 (λ h i j k. omega arith)) ∙ replied .5;
     }
   where
-    least : (b : List ℕ) → length b ≡ 640 → (k : AnyCall) → (Undetermined 640 (contextGiven sixAdditions) (inRattle k) → ⊥) → runAny k (bufferNow b everyCall) .0 ≡ anyReply 640 k sixAdditions
+    least : (b : List ℕ) → length b ≡ 640 → (k : AnyCall) → OtherThanModules k → (Undetermined 640 (contextGiven sixAdditions) (inRattle k) → ⊥) → runAny k (bufferNow b everyCall) .0 ≡ anyReply 640 k sixAdditions
     least b e = replied-now (w .typed) (w .list) b 640 (omega arith) (every-list .0) (omega arith)
 
-    greatest : (b : List ℕ) → length b ≡ 65537 → (k : AnyCall) → (Undetermined 65536 (contextGiven sixAdditions) (inRattle k) → ⊥) → runAny k (bufferNow b everyCall) .0 ≡ anyReply 65536 k sixAdditions
+    greatest : (b : List ℕ) → length b ≡ 65537 → (k : AnyCall) → OtherThanModules k → (Undetermined 65536 (contextGiven sixAdditions) (inRattle k) → ⊥) → runAny k (bufferNow b everyCall) .0 ≡ anyReply 65536 k sixAdditions
     greatest b e = replied-now (w .typed) (w .list) b 65536 (omega arith) (every-list .1) (omega arith)
 
 -- ---- two attributes
@@ -214,7 +223,7 @@ module _ (w : AllTyped (adds sixAdditions)) (b : List ℕ) (e : length b ≡ 104
   one-is-not =
       let r : roomOf b ≡ 104 = omega arith in
       let n : count (contextGiven (listNow b (adds one))) ≡ 1 = ap (λ (gs : List Addition). count (contextGiven gs)) one-now ∙ one-counted in
-      demand-2 .answers b (adds one) (fromC (askFromC (ultraStep 0 96))) (demand-2 .begins b (omega arith) .0) one-typed (λ u. omega (arith, n, u .2))
+      demand-2 .answers b (adds one) (fromC (askFromC (ultraStep 0 96))) (demand-2 .begins b (omega arith) .0) one-typed (a-question (ultraStep 0 96)) (λ u. omega (arith, n, u .2))
       ∙ (λ i. anyReply (r i) (fromC (askFromC (ultraStep 0 96))) (one-now i))
       ∙ one-replied
 
@@ -260,11 +269,13 @@ other-kept w i h = other w .others i (⊎-elim inl (λ l. inr (inr l)) h)
 
 -- ---- arguments of any length
 -- a call that is no add
-other-typed : (k : Call) → ((g : Addition) → k ≡ write (add g) → ⊥) → ((m : Members) → k ≡ write (addMembers m) → ⊥) → CallTyped k
-other-typed (ask q) p r = tt
-other-typed (write begin) p r = tt
-other-typed (write (add g)) p r = absurd (p g refl)
-other-typed (write (addMembers m)) p r = absurd (r m refl)
+other-typed : (k : Call) → ((g : Addition) → k ≡ write (add g) → ⊥) → ((m : Members) → k ≡ write (addMembers m) → ⊥)
+    → ((ms : List ModuleRecord) → k ≡ write (addModules ms) → ⊥) → CallTyped k
+other-typed (ask q) p r s = tt
+other-typed (write begin) p r s = tt
+other-typed (write (add g)) p r s = absurd (p g refl)
+other-typed (write (addMembers m)) p r s = absurd (r m refl)
+other-typed (write (addModules ms)) p r s = absurd (s ms refl)
 
 pub any-arguments : AnyArguments
 unfolding AllTyped every
@@ -272,10 +283,11 @@ any-arguments =
     record {
       lines = λ t y. (y, (y, tt));
       noMap = (tt, tt);
+      noModules = (tt, tt);
       noMembers =
           (record { kind = omega arith; loaderMajor = omega arith; loaderMinor = omega arith; name = (refl, some-bytes (zeros 32) refl); rsdp = omega arith; higherHalfBase = tt; depth = tt; dtb = tt; smbios = tt }, tt);
       joined = joined;
-      reading = λ k p r. (other-typed (inRattle k) p r, tt);
+      reading = λ k p r s. (other-typed (inRattle k) p r s, tt);
     }
 
 -- ---- what was built is plain

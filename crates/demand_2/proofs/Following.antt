@@ -16,8 +16,10 @@ use Rattle.ultra_format.specs.Rules.{Meets}
 use Rattle.ultra_format.specs.Decoding.{storedType, storedCount, typesBefore}
 use Rattle.ultra_format.specs.Plain.{writtenSize}
 use Rattle.ultra_format.specs.Additions.{Addition, attributeGiven, additionCheck, sizeGiven, bodyGiven, formed, givenCheck}
-use Rattle.ultra_format.specs.Additions.{Addition.addCommandLine}
+use Rattle.ultra_format.specs.Additions.{Addition.addModule, Addition.addCommandLine}
+use Rattle.refusals.specs.declared.Answer.{Answer}
 use Rattle.refusals.specs.declared.Answer.the-variants.{Done}
+use Rattle.ultra_format.specs.declared.records.ModuleRecord.{ModuleRecord}
 use Rattle.ultra_format.proofs.Attributes.{at, sized, Says, opens-says}
 use Rattle.byte_layout.proofs.Cells.{at-opens}
 use Rattle.ultra_acceptance.specs.Acceptance.{HoldsContext}
@@ -25,17 +27,19 @@ use Rattle.ultra_acceptance.proofs.Acceptance.{complete}
 use Rattle.ultra_building.specs.Building.{emptyHead, begun}
 use Rattle.ultra_adding.specs.Adding.{addedAt, addedMembers, added}
 use Rattle.ultra_adding.proofs.Adding.{membersCheckOn, members-held}
-use Rattle.demand_2.specs.Calls.{Members, membersFormed, membersBody, Write.begin, Write.add, Write.addMembers}
+use Rattle.ultra_modules.specs.Modules.{moduleAdded, modulesAdded}
+use Rattle.demand_2.specs.Calls.{Members, membersFormed, membersBody, Write.begin, Write.add, Write.addMembers, Write.addModules}
 use Rattle.demand_2.specs.Calls.{Call, Call.write, Call.ask, Reply, replyOf, runWrite, run}
 use Rattle.demand_2.specs.CallsFromC.{CallFromC, CallFromC.writeFromC, CallFromC.askFromC, replyFromC, runWriteFromC, runFromC, asked, replyCrossed}
 use Rattle.demand_2.specs.CallsFromC.{QuestionFromC.ultraRead, QuestionFromC.ultraStep, QuestionFromC.ultraAttribute, QuestionFromC.ultraCopyMap, QuestionFromC.ultraCommandLine, QuestionFromC.ultraModuleHolding}
 use Rattle.demand_2.specs.CallsFromC.{WriteFromC.ultraBegin, WriteFromC.ultraAddPlatform, WriteFromC.ultraAddKernel, WriteFromC.ultraAddMap, WriteFromC.ultraAddModule, WriteFromC.ultraAddCommandLine, WriteFromC.ultraAddFramebuffer}
 use Rattle.demand_2.specs.CallsFromC.{AnyCall, AnyCall.fromRattle, AnyCall.fromC, inRattle, runAny, after}
-use Rattle.demand_2.specs.Arguments.{AdditionTyped, MembersTyped, CallTyped, AllTyped}
+use Rattle.demand_2.specs.Arguments.{AdditionTyped, ModuleTyped, MembersTyped, ModulesTyped, CallTyped, AllTyped}
 use Rattle.ultra_appending.proofs.Appending.{appendable}
-use Rattle.demand_2.specs.Model.{attributesGiven, contextGiven, typesAfter, membersRefusal, refusalOf, giving, appended, listAfter, listAfterAll}
+use Rattle.demand_2.specs.Model.{attributesGiven, contextGiven, typesAfter, membersRefusal, refusalOf, giving, appended, addAnswer, moduleListed, modulesListed, listAfter, listAfterAll}
 use Rattle.demand_2.specs.Demand2.{Follows}
 use Rattle.demand_2.proofs.GivenMembers.{record-of, same-run}
+use Rattle.demand_2.proofs.ModulesInTurn.{alike}
 use Rattle.demand_2.proofs.Appending.{all-more, says-type, sound, left-length, written-left, held-more, total-more}
 
 -- ---- the list
@@ -101,6 +105,15 @@ module _ (d : List ℕ) (gs : List Addition) (f : Follows d gs) where
   -- what an add does, by the refusal of the list
   pub added-is : (ok : Bool) (x : Body) → addedMembers d ok x ≡ addedAt d x (orRefused (membersRefusal (roomOf d) gs ok x) (used (contextGiven gs)) (Done (used (contextGiven gs))))
   added-is ok x = members-held d (contextGiven gs) ok x (f .held) ∙ rw (same-check ok x)
+
+  -- and what it answers
+  pub add-reply : (x : Body) (g : Addition) → writtenSize x ≡ sizeGiven g → (n : ℕ)
+      → addedAt d x (orRefused n (used (contextGiven gs)) (Done (used (contextGiven gs)))) .0 ≡ addAnswer n gs g
+  add-reply x g e zero = ap Done (ap (λ (s : ℕ). used (contextGiven gs) + s) e ∙ sym (used-more gs g))
+  add-reply x g e (suc n) = refl
+
+pub same-room : (d b : List ℕ) → length d ≡ length b → roomOf d ≡ roomOf b
+same-room d b e = ap (λ (n : ℕ). min n 65536) e
 
 -- ---- a beginning
 empty-meets : (room : ℕ) → 8 ≤ room → Meets 0 room (contextGiven [])
@@ -189,12 +202,35 @@ module _ (d : List ℕ) (gs : List Addition) (h : Keeps d gs) where
           let q : refusalOf (roomOf d) gs g ≡ 0 = (λ i. membersRefusal (roomOf d) gs (sym (r .forms) i) (r .body i)) ∙ e in
           subst (λ (x : Reply × List ℕ). Keeps (x .1) (gs ++ (g ∷ [])) × (length (x .1) ≡ length d)) (sym (same-run d m r)) (rw q at (add-follows g (r .typed)))
 
+-- ---- several modules
+-- what they find and leave, in a buffer as long as b
+abbrev Kept : List ℕ → List ℕ → List Addition → Type 0
+Kept b d gs = Keeps d gs × (length d ≡ length b)
+
+module-follows : (b d : List ℕ) (gs : List Addition) (m : ModuleRecord) → Kept b d gs → ModuleTyped m
+    → (moduleAdded d m .0 ≡ moduleListed (roomOf b) gs m .0) × Kept b (moduleAdded d m .1) (moduleListed (roomOf b) gs m .1)
+module-follows b d gs m h y =
+    let g = addModule m in
+    let f = h .0 .follows in
+    let k = add-follows d gs (h .0) g y in
+    let q = same-room d b (h .1) in (
+      ap (λ (r : Answer × List ℕ). r .0) (added-is d gs f (formed g) (bodyGiven g)) ∙ add-reply d gs f (bodyGiven g) g refl (refusalOf (roomOf d) gs g)
+          ∙ ap (λ (room : ℕ). addAnswer (refusalOf room gs g) gs g) q,
+      (subst (λ (room : ℕ). Keeps (added d g .1) (appended (refusalOf room gs g) gs g)) q (k .0), k .1 ∙ h .1),
+    )
+
+pub modules-follow : (d : List ℕ) (gs : List Addition) (ms : List ModuleRecord) → Keeps d gs → ModulesTyped ms
+    → (modulesAdded d ms .0 ≡ modulesListed (roomOf d) gs ms .0) × Kept d (modulesAdded d ms .1) (modulesListed (roomOf d) gs ms .1)
+unfolding modulesAdded modulesListed
+modules-follow d gs ms h y = alike (roomOf d) (Kept d) (module-follows d) (Done 0) 0 d gs ms (h, refl) y
+
 pub step-follows : (d : List ℕ) (gs : List Addition) (k : Call) → Keeps d gs → CallTyped k → Keeps (run k d .1) (listAfter (roomOf d) k gs) × (length (run k d .1) ≡ length d)
 unfolding runWrite
 step-follows d gs (ask q) h y = (h, refl)
 step-follows d gs (write begin) h y = begin-follows d (long d gs (h .follows))
 step-follows d gs (write (add g)) h y = add-follows d gs h g y
 step-follows d gs (write (addMembers m)) h y = members-follow d gs h m y
+step-follows d gs (write (addModules ms)) h y = modules-follow d gs ms h y .1
 
 -- ---- toward C
 pub crosses : (b : List ℕ) (k : CallFromC) → runFromC k b ≡ (replyCrossed (run (asked k) b .0), run (asked k) b .1)
@@ -218,9 +254,6 @@ same-buffer (fromRattle k) b = refl
 same-buffer (fromC k) b = ap (λ (r : Reply × List ℕ). r .1) (crosses b k)
 
 -- ---- calls in a row
-pub same-room : (d b : List ℕ) → length d ≡ length b → roomOf d ≡ roomOf b
-same-room d b e = ap (λ (n : ℕ). min n 65536) e
-
 pub follows-all : (ks : List AnyCall) (d : List ℕ) (gs : List Addition) → Keeps d gs → AllTyped ks → Keeps (after ks d) (listAfterAll (roomOf d) ks gs) × (length (after ks d) ≡ length d)
 unfolding after listAfterAll AllTyped
 follows-all [] d gs h y = (h, refl)

@@ -2,10 +2,12 @@ pub mod Additions
 pub mod Appending
 pub mod Records
 pub mod GivenMembers
+pub mod ModulesInTurn
 pub mod Following
 pub mod Replies
 pub mod ReadingBack
 pub mod Rebuilding
 pub mod Demand2
 pub mod EveryCall
+pub mod SeveralModules
 pub mod Witness

@@ -24,6 +24,7 @@ use Rattle.refusals.specs.declared.Answer.{Answer}
 use Rattle.refusals.specs.declared.Answer.the-variants.{Done, Refused}
 use Rattle.refusals.proofs.Chains.{both-hold}
 use Rattle.ultra_format.proofs.Decoded.{starts, decoded-only}
+use Rattle.ultra_format.specs.declared.records.ModuleRecord.{ModuleRecord}
 use Rattle.ultra_stepping.specs.Checks.{headCheck, boundsCheck}
 use Rattle.ultra_reading.specs.Reading.{usedLength, versionOf, withVersion, readingOf}
 use Rattle.ultra_stepping.specs.Stepping.{cursorCheck, stepRefused, cursorAt, headerAt, stepOf}
@@ -48,16 +49,17 @@ use Rattle.ultra_question_statements.proofs.QuestionRefusals.{refusals-pass-on}
 use Rattle.ultra_adding.specs.Adding.{addedAt}
 use Rattle.demand_3.specs.Demand3.{ReadingIs}
 use Rattle.demand_3.proofs.Demand3.{demand-3}
-use Rattle.demand_2.specs.Calls.{membersFormed, membersBody, Write.begin, Write.add, Write.addMembers}
+use Rattle.demand_2.specs.Calls.{membersFormed, membersBody, Write.begin, Write.add, Write.addMembers, Write.addModules}
 use Rattle.demand_2.specs.Calls.{Question, Question.read, Question.step, Question.askAttribute, Question.askStart, Question.askPart, Question.copyMap, Question.copyMapBytes}
 use Rattle.demand_2.specs.Calls.{Question.askLine, Question.locateLine, Question.askModule, Question.list, Question.askListingLength}
 use Rattle.demand_2.specs.Calls.{Call, Call.write, Call.ask, Reply, lentPart, replyOf, runWrite, run}
-use Rattle.demand_2.specs.Calls.{Reply.answer, Reply.reading, Reply.stepped, Reply.attribute, Reply.located, Reply.lent, Reply.copied, Reply.number}
+use Rattle.demand_2.specs.Calls.{Reply.answer, Reply.several, Reply.reading, Reply.stepped, Reply.attribute, Reply.located, Reply.lent, Reply.copied, Reply.number}
 use Rattle.demand_2.specs.CallsFromC.{replyCrossed, AnyCall, inRattle, runAny}
 use Rattle.demand_2.specs.CallsFromC.{AnyCall.fromRattle, AnyCall.fromC}
+use Rattle.demand_2.specs.Arguments.{ModulesTyped}
 use Rattle.demand_2.specs.Model.{contextGiven, membersRefusal, refusalOf, giving, addAnswer, tooFew, stepWithin, stepIn, partIn, repliesIn, replyTo, anyReply, attributesGiven}
 use Rattle.demand_2.specs.Demand2.{Follows, Undetermined}
-use Rattle.demand_2.proofs.Following.{says-given, begun-is, long, added-is, used-more, crosses}
+use Rattle.demand_2.proofs.Following.{Keeps, says-given, begun-is, long, added-is, add-reply, modules-follow, crosses}
 use Rattle.demand_2.proofs.GivenMembers.{members-size}
 
 -- the number in the front of a list
@@ -220,21 +222,19 @@ module _ (d : List ℕ) (gs : List Addition) (f : Follows d gs) where
   by-context askListingLength n = (λ l. ap linesCounted (lines-enough l), λ l. ap linesCounted (lines-few l))
 
   -- ---- every call
-  add-reply : (x : Body) (g : Addition) → writtenSize x ≡ sizeGiven g → (n : ℕ) → addedAt d x (orRefused n (used now) (Done (used now))) .0 ≡ addAnswer n gs g
-  add-reply x g e zero = ap Done (ap (λ (s : ℕ). used now + s) e ∙ sym (used-more gs g))
-  add-reply x g e (suc n) = refl
-
-  pub replies-by-list : (k : Call) → (Undetermined (roomOf d) now k → ⊥) → run k d .0 ≡ replyTo (roomOf d) k gs
+  pub replies-by-list : (k : Call) → Keeps d gs → ((ms : List ModuleRecord) → k ≡ write (addModules ms) → ModulesTyped ms) → (Undetermined (roomOf d) now k → ⊥) → run k d .0 ≡ replyTo (roomOf d) k gs
   unfolding runWrite replyTo total attributesGiven
-  replies-by-list (ask q) n = by-count now 2 (by-context q n .0) (by-context q n .1)
-  replies-by-list (write begin) n = ap (λ (r : Answer × List ℕ). answer (r .0)) (begun-is d (long d gs f))
-  replies-by-list (write (add g)) n =
-      ap (λ (r : Answer × List ℕ). answer (r .0)) (added-is d gs f (formed g) (bodyGiven g)) ∙ ap answer (add-reply (bodyGiven g) g refl (refusalOf (roomOf d) gs g))
-  replies-by-list (write (addMembers m)) n =
+  replies-by-list (ask q) h y n = by-count now 2 (by-context q n .0) (by-context q n .1)
+  replies-by-list (write begin) h y n = ap (λ (r : Answer × List ℕ). answer (r .0)) (begun-is d (long d gs f))
+  replies-by-list (write (add g)) h y n =
+      ap (λ (r : Answer × List ℕ). answer (r .0)) (added-is d gs f (formed g) (bodyGiven g)) ∙ ap answer (add-reply d gs f (bodyGiven g) g refl (refusalOf (roomOf d) gs g))
+  replies-by-list (write (addMembers m)) h y n =
       ap (λ (r : Answer × List ℕ). answer (r .0)) (added-is d gs f (membersFormed m) (membersBody m))
-      ∙ ap answer (add-reply (membersBody m) (giving (membersBody m)) (sym (members-size m)) (membersRefusal (roomOf d) gs (membersFormed m) (membersBody m)))
+      ∙ ap answer (add-reply d gs f (membersBody m) (giving (membersBody m)) (sym (members-size m)) (membersRefusal (roomOf d) gs (membersFormed m) (membersBody m)))
+  replies-by-list (write (addModules ms)) h y n = ap several (modules-follow d gs ms h (y ms refl) .0)
 
   -- from Rattle or from C
-  pub any-reply : (k : AnyCall) → (Undetermined (roomOf d) now (inRattle k) → ⊥) → runAny k d .0 ≡ anyReply (roomOf d) k gs
-  any-reply (fromRattle k) n = replies-by-list k n
-  any-reply (fromC k) n = ap (λ (r : Reply × List ℕ). r .0) (crosses d k) ∙ ap replyCrossed (replies-by-list (inRattle (fromC k)) n)
+  pub any-reply : (k : AnyCall) → Keeps d gs → ((ms : List ModuleRecord) → inRattle k ≡ write (addModules ms) → ModulesTyped ms)
+      → (Undetermined (roomOf d) now (inRattle k) → ⊥) → runAny k d .0 ≡ anyReply (roomOf d) k gs
+  any-reply (fromRattle k) h y n = replies-by-list k h y n
+  any-reply (fromC k) h y n = ap (λ (r : Reply × List ℕ). r .0) (crosses d k) ∙ ap replyCrossed (replies-by-list (inRattle (fromC k)) h y n)

@@ -17,7 +17,7 @@ use Rattle.ultra_format.specs.declared.records.OptionalU64.the-variants as wide
 use Rattle.ultra_format.specs.declared.records.OptionalU8.{OptionalU8}
 use Rattle.ultra_format.specs.declared.records.OptionalU8.the-variants as narrow
 use Rattle.demand_2.specs.Calls.{Members, Members.platformMembers, Members.kernelMembers, Members.mapMembers, Members.moduleMembers}
-use Rattle.demand_2.specs.Calls.{Call, Call.write, Call.ask, Write.begin, Write.add, Write.addMembers}
+use Rattle.demand_2.specs.Calls.{Call, Call.write, Call.ask, Write.begin, Write.add, Write.addMembers, Write.addModules}
 use Rattle.demand_2.specs.CallsFromC.{AnyCall, inRattle}
 
 -- ---- records, numbers and texts
@@ -82,6 +82,11 @@ AdditionTyped (addModule r) = ModuleTyped r
 AdditionTyped (addCommandLine t) = Bytes t
 AdditionTyped (addFramebuffer r) = FramebufferTyped r
 
+-- &[ModuleRecord]
+abbrev pub ModulesTyped : List ModuleRecord → Type 0
+ModulesTyped [] = Unit {0}
+ModulesTyped (m ∷ ms) = ModuleTyped m × ModulesTyped ms
+
 -- ---- members one by one: a text or a list of bytes is of any length
 pub record PlatformMembersTyped (kind major minor : ℕ) (name : List ℕ) (rsdp base depth dtb smbios : ℕ) : Type 0 where
   pub kindTyped : kind < 2 ^ 32
@@ -118,6 +123,7 @@ CallTyped (ask q) = Unit {0}
 CallTyped (write begin) = Unit {0}
 CallTyped (write (add g)) = AdditionTyped g
 CallTyped (write (addMembers m)) = MembersTyped m
+CallTyped (write (addModules ms)) = ModulesTyped ms
 
 -- calls in a row, from Rattle or from C
 unfoldable pub AllTyped : List AnyCall → Type 0

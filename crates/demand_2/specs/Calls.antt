@@ -23,6 +23,9 @@ use Rattle.ultra_questions.specs.CommandLineQuestion.{commandLinePart}
 use Rattle.ultra_questions.specs.ModuleQuestion.{moduleHolding}
 use Rattle.ultra_adding.specs.Adding.{added, addedMembers}
 use Rattle.ultra_building.specs.Building.{begun}
+use Rattle.ultra_format.specs.declared.records.ModuleRecord.{ModuleRecord}
+use Rattle.ultra_modules.specs.Modules.{modulesAdded}
+use Rattle.ultra_modules.specs.declared.ModulesAdded.{ModulesAdded}
 use Rattle.listing_format.specs.Listing.{listing, listed}
 
 -- what the adds of `ultra_building::members` are given: "numbers and byte slices"; `complete` says that no member is absent
@@ -55,6 +58,8 @@ pub data Write : Type 0 where
   add : Addition → Write
   -- `ultra_building::members::add_platform`, `add_kernel`, `add_map`, `add_module`
   addMembers : Members → Write
+  -- `ultra_modules::add_modules`
+  addModules : List ModuleRecord → Write
 
 -- those that ask: they are lent the buffer to read
 pub data Question : Type 0 where
@@ -90,6 +95,8 @@ pub data Call : Type 0 where
 -- what a call gives back. A part of the buffer is told by where it is and by its bytes; `copied` has the lent output too.
 pub data Reply : Type 0 where
   answer : Answer → Reply
+  -- of several modules, with how many were added
+  several : ModulesAdded → Reply
   reading : Reading → Reply
   stepped : Step → Reply
   attribute : AttributeAnswer → Reply
@@ -107,11 +114,15 @@ lentPart b p = lent p (bytesAt b (p .start) (p .length))
 abbrev pub answerAnd : Answer × List ℕ → Reply × List ℕ
 answerAnd r = (answer (r .0), r .1)
 
+abbrev pub severalAnd : ModulesAdded × List ℕ → Reply × List ℕ
+severalAnd r = (several (r .0), r .1)
+
 -- what a call that writes answers, and the buffer afterwards
 unfoldable pub runWrite : Write → List ℕ → Reply × List ℕ
 runWrite begin b = answerAnd (begun b)
 runWrite (add g) b = answerAnd (added b g)
 runWrite (addMembers m) b = answerAnd (addedMembers b (membersFormed m) (membersBody m))
+runWrite (addModules ms) b = severalAnd (modulesAdded b ms)
 
 -- what a question answers, by the buffer alone
 unfoldable pub replyOf : Question → List ℕ → Reply

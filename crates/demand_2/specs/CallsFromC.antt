@@ -19,7 +19,7 @@ use Rattle.demand_2.specs.Calls.{Members.platformMembers, Members.kernel
 use Rattle.demand_2.specs.Calls.{Write, Write.begin, Write.add, Write.addMembers}
 use Rattle.demand_2.specs.Calls.{Question, Question.read, Question.step, Question.askStart, Question.copyMapBytes, Question.locateLine, Question.askModule}
 use Rattle.demand_2.specs.Calls.{Call, run, Call.write, Call.ask}
-use Rattle.demand_2.specs.Calls.{Reply, Reply.answer, Reply.reading, Reply.stepped, Reply.attribute, Reply.located, Reply.lent, Reply.copied, Reply.number, Reply.numberCopied}
+use Rattle.demand_2.specs.Calls.{Reply, Reply.answer, Reply.several, Reply.reading, Reply.stepped, Reply.attribute, Reply.located, Reply.lent, Reply.copied, Reply.number, Reply.numberCopied}
 
 -- ---- the calls: those that write, and those that ask
 pub data WriteFromC : Type 0 where
@@ -98,9 +98,10 @@ abbrev pub asked : CallFromC → Call
 asked (writeFromC w) = write (writeAsked w)
 asked (askFromC q) = ask (questionAsked q)
 
--- its reply as one number; records and slices do not cross
+-- its reply as one number; records and slices do not cross, and several modules have no call from C
 abbrev pub replyCrossed : Reply → Reply
 replyCrossed (answer a) = number (answerCrossed a)
+replyCrossed (several s) = several s
 replyCrossed (reading r) = number (readingCrossed r)
 replyCrossed (stepped s) = number (stepCrossed s)
 replyCrossed (attribute a) = attribute a

@@ -6,6 +6,7 @@
 -- document 01 (Examples, Witness).
 -- What the calls do to a buffer is `run` (Calls) and, from C, `runFromC` (CallsFromC); what they do to a list and answer by it is
 -- `listAfter` and `replyTo` (Model). Proved in proofs/Demand2.antt: `demand-2`.
+-- Request R-1 of document 02 has a call of its own join, several modules, and amends demand 1 for it (`stays`).
 -- What is assumed: nobody else writes the buffer, so that a call finds what the call before left (`after`); it is lent for nothing but
 -- its context, so that no text, map or output that a call is given beside it is a part of it (they are lists of their own); and
 -- arguments of adds are of their types (`AllTyped`, Arguments).
@@ -38,13 +39,16 @@ use Rattle.ultra_questions.specs.AttributeQuestion.{unanswered, attributeAnswer
 use Rattle.words.specs.Words.{numbersAt}
 use Rattle.ultra_adding.specs.Adding.{added}
 use Rattle.ultra_building.specs.Building.{begun}
+use Rattle.ultra_format.specs.declared.records.ModuleRecord.{ModuleRecord}
+use Rattle.ultra_modules.specs.declared.ModulesAdded.{ModulesAdded}
+use Rattle.ultra_modules.specs.Modules.{modulesAdded}
 use Rattle.demand_3.specs.Demand3.{partAt}
-use Rattle.demand_2.specs.Calls.{Members, membersBody, Write.begin, Write.add, Write.addMembers, Question.step}
-use Rattle.demand_2.specs.Calls.{Call, Call.write, Call.ask, Reply, Reply.answer, runWrite, run}
+use Rattle.demand_2.specs.Calls.{Members, membersBody, Write.begin, Write.add, Write.addMembers, Write.addModules, Question.step}
+use Rattle.demand_2.specs.Calls.{Call, Call.write, Call.ask, Reply, Reply.answer, Reply.several, runWrite, run}
 use Rattle.demand_2.specs.CallsFromC.{CallFromC, runFromC, asked, replyCrossed, AnyCall, inRattle, runAny, after, replies}
 use Rattle.demand_2.specs.CallsFromC.{AnyCall.fromRattle}
-use Rattle.demand_2.specs.Arguments.{AdditionTyped, MembersTyped, AllTyped}
-use Rattle.demand_2.specs.Model.{contextGiven, giving, listAfterAll, anyReply}
+use Rattle.demand_2.specs.Arguments.{AdditionTyped, MembersTyped, ModulesTyped, AllTyped}
+use Rattle.demand_2.specs.Model.{attributesGiven, contextGiven, giving, listAfterAll, anyReply}
 
 -- ---- a buffer compared with a list
 pub record Follows (b : List ℕ) (gs : List Addition) : Type 0 where
@@ -126,6 +130,16 @@ pub record Appended (b : List ℕ) (c : Context) (g : Addition) (d : List ℕ) (
   -- "raises the head's count by one and changes no other byte"
   pub others : (i : ℕ) → (i < 4) ⊎ ((8 ≤ i) × (i < used c)) ⊎ (n ≤ i) → getD d i 0 ≡ getD b i 0
 
+-- ---- several modules
+-- as they stand in the list
+unfoldable pub modulesGiven : List ModuleRecord → List Addition
+modulesGiven [] = []
+modulesGiven (m ∷ ms) = addModule m ∷ modulesGiven ms
+
+-- the context with modules more
+abbrev pub withModules : Context → List ModuleRecord → Context
+withModules c ms = record { major = c .major; minor = c .minor; attributes = c .attributes ++ attributesGiven (modulesGiven ms) }
+
 -- ---- members one by one
 -- an add of members is the add of the record that has them; or it is refused, and changes nothing
 abbrev pub AsRecord : List ℕ → Members → Type 0
@@ -151,8 +165,10 @@ pub record Demand2 : Type 0 where
   -- refused appends to it, any other call leaves it (listAfter)
   pub follows : (b : List ℕ) (ks : List AnyCall) → begun b .0 ≡ Done 8 → AllTyped ks → Follows (bufferNow b ks) (listNow b ks)
   pub sameLength : (b : List ℕ) (ks : List AnyCall) → begun b .0 ≡ Done 8 → AllTyped ks → length (bufferNow b ks) ≡ length b
-  -- and every answer is the one that the list determines
+  -- and every answer is the one that the list determines; of several modules where they are of their types, since a later one is answered
+  -- after those before it were stored
   pub answers : (b : List ℕ) (ks : List AnyCall) (k : AnyCall) → begun b .0 ≡ Done 8 → AllTyped ks
+      → ((ms : List ModuleRecord) → inRattle k ≡ write (addModules ms) → ModulesTyped ms)
       → (Undetermined (roomOf b) (contextGiven (listNow b ks)) (inRattle k) → ⊥)
       → runAny k (bufferNow b ks) .0 ≡ anyReply (roomOf b) k (listNow b ks)
   -- steps by the list's own cursors go through it
@@ -166,9 +182,18 @@ pub record Demand2 : Type 0 where
   -- "or is refused": a beginning or an add that is refused leaves every byte, in any buffer. A question leaves them whatever it answers
   -- (`run`)
   pub refusals : (b : List ℕ) (k : Call) (a : Answer) → run k b .0 ≡ answer a → (numberOf a ≡ 0 → ⊥) → run k b .1 ≡ b
+  -- R-1: "What went before the refused module stays": whatever is answered of several modules, the buffer is as single adds of those that
+  -- were added leave it, and each of these succeeds. With none added that is the buffer as it was. "this amends demand 1 .. for this call
+  -- only": every other call that writes is one of `refusals`.
+  pub stays : (b : List ℕ) (ms : List ModuleRecord) (s : ModulesAdded) → run (write (addModules ms)) b .0 ≡ several s
+      → (run (write (addModules ms)) b .1 ≡ after (adds (modulesGiven (take (s .added) ms))) b)
+      × AllSucceeded (replies (adds (modulesGiven (take (s .added) ms))) b)
   -- beyond the order: adding to any buffer that holds a context, also one that another writer began, appends exactly the attribute given
   pub appends : (b : List ℕ) (c : Context) (g : Addition) (n : ℕ) → HoldsContext 0 b c → AdditionTyped g → added b g .0 ≡ Done n
       → Appended b c g (added b g .1) n
+  -- several modules alike: the context has those more that were added
+  pub appendsModules : (b : List ℕ) (c : Context) (ms : List ModuleRecord) → HoldsContext 0 b c → ModulesTyped ms
+      → HoldsContext 0 (modulesAdded b ms .1) (withModules c (take (modulesAdded b ms .0 .added) ms))
   -- "With two or more, it reads back as the records given"
   pub readsBack : (b : List ℕ) (ks : List AnyCall) → begun b .0 ≡ Done 8 → AllTyped ks → 2 ≤ length (listNow b ks) → ReadsBack (bufferNow b ks) (listNow b ks)
   -- "a plain context, built again from its reading, has the same bytes": into any buffer with room for it, and nothing is refused

@@ -21,6 +21,7 @@ use Rattle.ultra_format.specs.Additions.{Addition.addPlatform, Addition.addKern
 use Rattle.refusals.specs.declared.Refusal.{Refusal}
 use Rattle.refusals.specs.declared.Answer.{Answer}
 use Rattle.refusals.specs.declared.Answer.the-variants.{Done, Refused}
+use Rattle.ultra_format.specs.declared.records.ModuleRecord.{ModuleRecord}
 use Rattle.ultra_stepping.specs.Checks.{boundsCheck}
 use Rattle.ultra_stepping.specs.Stepping.{stepRefused, cursorAt, headerAt, stepRefusedAt}
 use Rattle.ultra_reading.specs.declared.Reading.the-variants as readings
@@ -34,12 +35,14 @@ use Rattle.ultra_map_question.specs.MapQuestion.{numbers, mapIn, overBytes}
 use Rattle.ultra_questions.specs.CommandLineQuestion.{commandLineIn, textIn}
 use Rattle.ultra_questions.specs.ModuleQuestion.{moduleIn}
 use Rattle.ultra_appending.specs.Appending.{appendCheck}
+use Rattle.ultra_modules.specs.Modules.{inTurn}
+use Rattle.ultra_modules.specs.declared.ModulesAdded.{ModulesAdded}
 use Rattle.listing_format.specs.Listing.{contextLines, refusedLines, textListed}
-use Rattle.demand_2.specs.Calls.{membersFormed, membersBody, Write.begin, Write.add, Write.addMembers}
+use Rattle.demand_2.specs.Calls.{membersFormed, membersBody, Write.begin, Write.add, Write.addMembers, Write.addModules}
 use Rattle.demand_2.specs.Calls.{Question, Question.read, Question.step, Question.askAttribute, Question.askStart, Question.askPart, Question.copyMap, Question.copyMapBytes}
 use Rattle.demand_2.specs.Calls.{Question.askLine, Question.locateLine, Question.askModule, Question.list, Question.askListingLength}
 use Rattle.demand_2.specs.Calls.{Call, Call.write, Call.ask, Reply}
-use Rattle.demand_2.specs.Calls.{Reply.answer, Reply.reading, Reply.stepped, Reply.attribute, Reply.located, Reply.lent, Reply.copied, Reply.number}
+use Rattle.demand_2.specs.Calls.{Reply.answer, Reply.several, Reply.reading, Reply.stepped, Reply.attribute, Reply.located, Reply.lent, Reply.copied, Reply.number}
 use Rattle.demand_2.specs.CallsFromC.{asked, replyCrossed, AnyCall, inRattle}
 use Rattle.demand_2.specs.CallsFromC.{AnyCall.fromRattle, AnyCall.fromC}
 
@@ -85,12 +88,20 @@ abbrev pub addAnswer : ℕ → List Addition → Addition → Answer
 addAnswer zero gs g = Done (used (contextGiven (gs ++ (g ∷ []))))
 addAnswer (suc n) gs g = refused (suc n) (used (contextGiven gs))
 
+-- several modules, in turn up to the first that is refused: what is answered, and the list afterwards
+abbrev pub moduleListed : ℕ → List Addition → ModuleRecord → Answer × List Addition
+moduleListed room gs m = let n = refusalOf room gs (addModule m) in (addAnswer n gs (addModule m), appended n gs (addModule m))
+
+unfoldable pub modulesListed : ℕ → List Addition → List ModuleRecord → ModulesAdded × List Addition
+modulesListed room gs ms = inTurn (moduleListed room) (Done 0) 0 gs ms
+
 -- ---- what a call does to the list
 abbrev pub listAfter : ℕ → Call → List Addition → List Addition
 listAfter room (ask q) gs = gs
 listAfter room (write begin) gs = []
 listAfter room (write (add g)) gs = appended (refusalOf room gs g) gs g
 listAfter room (write (addMembers m)) gs = appended (membersRefusal room gs (membersFormed m) (membersBody m)) gs (giving (membersBody m))
+listAfter room (write (addModules ms)) gs = modulesListed room gs ms .1
 
 unfoldable pub listAfterAll : ℕ → List AnyCall → List Addition → List Addition
 listAfterAll room [] gs = gs
@@ -136,6 +147,7 @@ replyTo room (write begin) gs = answer (Done (used (contextGiven [])))
 replyTo room (write (add g)) gs = answer (addAnswer (refusalOf room gs g) gs g)
 replyTo room (write (addMembers m)) gs =
     answer (addAnswer (membersRefusal room gs (membersFormed m) (membersBody m)) gs (giving (membersBody m)))
+replyTo room (write (addModules ms)) gs = several (modulesListed room gs ms .0)
 
 -- the same toward C, as one number
 abbrev pub anyReply : ℕ → AnyCall → List Addition → Reply

@@ -10,7 +10,7 @@ use mathlib.Core.Bool.{true, false}
 use mathlib.Core.Path.{_≡_}
 use mathlib.Core.List.{List, [], _∷_, _++_}
 use lib.ListN.{length, take, getD, replicate}
-use Rattle.refusals.specs.Refusals.{SHORT}
+use Rattle.refusals.specs.Refusals.{SHORT, VALUE, ROOM}
 use Rattle.refusals.specs.Answers.{refused, numberOf}
 use Rattle.ultra_format.specs.Decoding.{contextOf}
 use Rattle.ultra_format.specs.Contexts.{Context}
@@ -21,26 +21,28 @@ use Rattle.ultra_format.specs.Additions.{Addition.addPlatform, Addition.addKern
 use Rattle.refusals.specs.declared.Answer.{Answer}
 use Rattle.refusals.specs.declared.Answer.the-variants.{Done}
 use Rattle.ultra_format.specs.declared.records.PlatformRecord.{PlatformRecord}
+use Rattle.ultra_format.specs.declared.records.ModuleRecord.{ModuleRecord}
 use Rattle.ultra_format.specs.declared.records.OptionalU64.the-variants as wide
 use Rattle.ultra_format.specs.declared.records.OptionalU8.the-variants as narrow
 use Rattle.ultra_stepping.specs.Stepping.{cursorAt}
 use Rattle.ultra_building.specs.Building.{begun}
 use Rattle.ultra_adding.specs.Adding.{added}
+use Rattle.ultra_modules.specs.Modules.{soFar, modulesAdded}
 use Rattle.ultra_acceptance.specs.Acceptance.{HoldsContext}
 use Rattle.demand_3.specs.Witness.{everyPlatformRecord, everyKernelRecord, everyModuleRecord, everyFramebufferRecord, everyEntries, everyLine}
 use Rattle.ultra_acceptance.specs.Steps.{StepsThrough}
 use Rattle.demand_2.specs.Calls.{Members, membersBody, Members.platformMembers, Members.kernelMembers, Members.mapMembers, Members.moduleMembers}
-use Rattle.demand_2.specs.Calls.{Write.begin, Write.add, Write.addMembers}
+use Rattle.demand_2.specs.Calls.{Write.begin, Write.add, Write.addMembers, Write.addModules}
 use Rattle.demand_2.specs.Calls.{Question, Question.read, Question.step, Question.askAttribute, Question.askStart, Question.askPart, Question.copyMap, Question.copyMapBytes}
 use Rattle.demand_2.specs.Calls.{Question.askLine, Question.locateLine, Question.askModule, Question.list, Question.askListingLength}
-use Rattle.demand_2.specs.Calls.{Call.write, Call.ask, Reply.answer, Reply.number, runWrite, run}
+use Rattle.demand_2.specs.Calls.{Call.write, Call.ask, Reply.answer, Reply.several, Reply.number, runWrite, run}
 use Rattle.demand_2.specs.CallsFromC.{CallFromC, CallFromC.writeFromC, CallFromC.askFromC, runFromC, asked, AnyCall, inRattle, runAny, after, replies}
 use Rattle.demand_2.specs.CallsFromC.{AnyCall.fromRattle, AnyCall.fromC}
 use Rattle.demand_2.specs.CallsFromC.{QuestionFromC, QuestionFromC.ultraRead, QuestionFromC.ultraStep, QuestionFromC.ultraAttribute, QuestionFromC.ultraCopyMap, QuestionFromC.ultraCommandLine, QuestionFromC.ultraModuleHolding}
 use Rattle.demand_2.specs.CallsFromC.{WriteFromC.ultraBegin, WriteFromC.ultraAddPlatform, WriteFromC.ultraAddKernel, WriteFromC.ultraAddMap, WriteFromC.ultraAddModule, WriteFromC.ultraAddCommandLine, WriteFromC.ultraAddFramebuffer}
 use Rattle.demand_2.specs.Arguments.{MembersTyped, AllTyped}
 use Rattle.demand_2.specs.Model.{contextGiven, listAfterAll}
-use Rattle.demand_2.specs.Demand2.{ReadsBack, adds, AllSucceeded, Appended, bufferNow, listNow}
+use Rattle.demand_2.specs.Demand2.{ReadsBack, adds, AllSucceeded, Appended, withModules, bufferNow, listNow}
 
 -- the records of 01's listing
 abbrev pub listedAdditions : List Addition
@@ -83,11 +85,13 @@ sixAdditions =
     ∷ []
 
 -- ---- calls of every kind
--- after a first beginning: two attributes, a beginning that empties the list, the six types in turn; adds that are refused
+-- after a first beginning: two attributes and two modules, a beginning that empties the list, the six types in turn, no module; adds that
+-- are refused
 abbrev pub everyWrite : List AnyCall
 everyWrite =
     fromRattle (write (add (addPlatform (everyPlatformRecord .platform))))
     ∷ fromC (writeFromC (ultraAddKernel 4096 4096 4096 1 (zeros 16) (zeros 16) 0 0 (47 ∷ [])))
+    ∷ fromRattle (write (addModules (everyModuleRecord .«module» ∷ everyModuleRecord .«module» ∷ [])))
     ∷ fromC (writeFromC ultraBegin)
     ∷ fromRattle (write begin)
     ∷ fromRattle (write (addMembers (platformMembers true 67305985 258 772 (98 ∷ []) 578437695752307201 2314601843866147353 5 1157159078456920585 1735880461161533969)))
@@ -96,7 +100,8 @@ everyWrite =
     ∷ fromC (writeFromC (ultraAddModule 2 (109 ∷ []) 8589934592 4097))
     ∷ fromRattle (write (add (addCommandLine everyLine)))
     ∷ fromC (writeFromC (ultraAddFramebuffer 1024 768 4096 32 3 18446744073706405888))
-    -- refused: 9, 9, 9, 9, 10, 10, 11, 11, 10, 10
+    ∷ fromRattle (write (addModules []))
+    -- refused: 9, 9, 9, 9, 10, 10, 11, 11, 11, 10, 10
     ∷ fromRattle (write (addMembers (platformMembers false 2 0 0 [] 0 0 0 0 0)))
     ∷ fromC (writeFromC (ultraAddPlatform 2 0 0 [] 0 0 0 0 0))
     ∷ fromRattle (write (add (addKernel (everyKernelRecord .kernel))))
@@ -105,6 +110,7 @@ everyWrite =
     ∷ fromC (writeFromC (ultraAddMap (0 ∷ [])))
     ∷ fromRattle (write (add (addModule (everyModuleRecord .«module»))))
     ∷ fromRattle (write (addMembers (moduleMembers 1 [] 0 0)))
+    ∷ fromRattle (write (addModules (everyModuleRecord .«module» ∷ [])))
     ∷ fromC (writeFromC (ultraAddCommandLine []))
     ∷ fromRattle (write (add (addFramebuffer (everyFramebufferRecord .framebuffer))))
     ∷ []
@@ -176,6 +182,7 @@ widestCalls =
     ∷ fromC (writeFromC (ultraAddKernel 18446744073709551615 18446744073709551615 18446744073709551615 18446744073709551615 (ones 17) (ones 300) 4294967295 4294967295 (ones 300)))
     ∷ fromC (writeFromC (ultraAddMap (ones 25)))
     ∷ fromC (writeFromC (ultraAddModule 4294967295 (ones 300) 18446744073709551615 18446744073709551615))
+    ∷ fromRattle (write (addModules (record { kind = 4294967295; name = ones 64; address = 18446744073709551615; size = 18446744073709551615 } ∷ [])))
     ∷ []
 
 -- no late member
@@ -220,16 +227,17 @@ pub record EveryKind : Type 0 where
       → runAny (fromC (askFromC (ultraStep 0 644))) (bufferNow b everyCall) .0 ≡ number 21474837124
 
 -- ---- arguments, of any length
--- a line of any bytes, an empty map and a platform without late members are of their types; calls that are, one after the other, are; and
+-- a line of any bytes, an empty map, no modules and a platform without late members are of their types; calls that are, one after the other, are; and
 -- so are calls without an add
 pub record AnyArguments : Type 0 where
   pub lines : (t : List ℕ) → ((i : ℕ) → getD t i 0 < 256)
       → AllTyped (fromRattle (write (add (addCommandLine t))) ∷ fromC (writeFromC (ultraAddMap t)) ∷ [])
   pub noMap : AllTyped (fromRattle (write (add (addMap []))) ∷ [])
+  pub noModules : AllTyped (fromRattle (write (addModules [])) ∷ [])
   pub noMembers : AllTyped (fromRattle (write (add (addPlatform absentPlatform))) ∷ [])
   pub joined : (ks js : List AnyCall) → AllTyped ks → AllTyped js → AllTyped (ks ++ js)
   pub reading : (k : AnyCall) → ((g : Addition) → inRattle k ≡ write (add g) → ⊥) → ((m : Members) → inRattle k ≡ write (addMembers m) → ⊥)
-      → AllTyped (k ∷ [])
+      → ((ms : List ModuleRecord) → inRattle k ≡ write (addModules ms) → ⊥) → AllTyped (k ∷ [])
 
 -- two attributes
 abbrev pub two : List Addition
@@ -243,6 +251,38 @@ pub record TwoAreEnough : Type 0 where
   pub oneIsNot : (b : List ℕ) → length b ≡ 104 → runAny (fromC (askFromC (ultraStep 0 96))) (bufferNow b (adds one)) .0 ≡ number 17179869184
   pub back : (b : List ℕ) → length b ≡ 432 → ReadsBack (bufferNow b (adds two)) two
   pub through : (b : List ℕ) → length b ≡ 432 → StepsThrough (bufferNow b (adds two)) (contextGiven two)
+
+-- ---- several modules
+-- a module of a type, which is refused as 13 if it is not 1 or 2
+abbrev pub aModule : ℕ → ModuleRecord
+aModule kind = record { kind = kind; name = 109 ∷ zeros 63; address = 4096; size = 4097 }
+
+abbrev pub threeModules : List ModuleRecord
+threeModules = aModule 1 ∷ aModule 2 ∷ aModule 1 ∷ []
+
+-- the third is refused, and the fourth is not tried
+abbrev pub fourModules : List ModuleRecord
+fourModules = aModule 1 ∷ aModule 2 ∷ aModule 3 ∷ aModule 1 ∷ []
+
+abbrev pub addingModules : List ModuleRecord → AnyCall
+addingModules ms = fromRattle (write (addModules ms))
+
+-- after a platform and a kernel, which use 432 bytes; a module has 96
+pub record SeveralModules : Type 0 where
+  pub all : (b : List ℕ) → length b ≡ 720 → runAny (addingModules threeModules) (bufferNow b (adds two)) .0 ≡ several (soFar (Done 720) 3)
+  -- in a byte less, and with a refused module, two are added; the offset counts them
+  pub noRoom : (b : List ℕ) → length b ≡ 719
+      → runAny (addingModules threeModules) (bufferNow b (adds two)) .0 ≡ several (soFar (refused ROOM 624) 2)
+  pub third : (b : List ℕ) → length b ≡ 720
+      → runAny (addingModules fourModules) (bufferNow b (adds two)) .0 ≡ several (soFar (refused VALUE 624) 2)
+  -- they are in the list, and read back
+  pub back : (b : List ℕ) → length b ≡ 720
+      → ReadsBack (bufferNow b (adds two ++ (addingModules fourModules ∷ []))) (two ++ (addModule (aModule 1) ∷ addModule (aModule 2) ∷ []))
+  -- with no modules, on any buffer
+  pub none : (b : List ℕ) → runAny (addingModules []) b ≡ (several (soFar (Done 0) 0), b)
+  -- in any buffer that holds a context
+  pub appended : (b : List ℕ) (c : Context) → HoldsContext 2 b c
+      → HoldsContext 0 (modulesAdded b fourModules .1) (withModules c (take (modulesAdded b fourModules .0 .added) fourModules))
 
 -- a call from C that is refused changes nothing, in any buffer; and an add of members that changes a buffer is the add of a record
 pub record FromCAndMembers : Type 0 where
@@ -264,6 +304,7 @@ pub record Witnessed : Type 0 where
   pub others : FromCAndMembers
   pub arguments : AnyArguments
   pub enough : TwoAreEnough
+  pub modules : SeveralModules
   -- whatever was built is plain
   pub plain : (b : List ℕ) (ks : List AnyCall) → begun b .0 ≡ Done 8 → AllTyped ks → Plain (bufferNow b ks) (contextGiven (listNow b ks))
   pub head : (b : List ℕ) → length b ≡ 8 → begun b ≡ (Done 8, 1 ∷ zeros 7)

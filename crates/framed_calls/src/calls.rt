@@ -2,6 +2,7 @@
 ghost use Prim.Native.Nat.{_≤_};
 ghost use lib.ListN.{length};
 use crate::given;
+use crate::modules;
 use call_frames::frame;
 
 // The answer to a frame that is no call.
@@ -13,7 +14,7 @@ const NONE: u32 = 4294967295;
 // How many numbers a call takes.
 fn numbers_of(call: u32) -> u32 {
     match call {
-        1 | 2 | 7..=10 | 12 | 15 | 17 | 21 | 23 | 24 => 0,
+        1 | 2 | 7..=10 | 12 | 15 | 17 | 21 | 23..=25 => 0,
         4..=6 | 11 => 1,
         3 => 2,
         16 | 22 => 3,
@@ -28,7 +29,7 @@ fn strings_of(call: u32) -> u32 {
     match call {
         2 => 0,
         1 | 3..=6 | 9..=12 | 18 | 24 => 1,
-        7 | 8 | 13 | 15..=17 | 19 | 21..=23 => 2,
+        7 | 8 | 13 | 15..=17 | 19 | 21..=23 | 25 => 2,
         14 | 20 => 4,
         _ => NONE,
     }
@@ -41,7 +42,16 @@ fn call_of(frame: &[u8]) -> u32 {
     words::load_u32(frame, 0)
 }
 
-// Whether the frame is a call, and its buffer and, where the call takes numbers in a string, those have no more than `bytes` and `numbers`.
+// Whether a string of numbers or of modules has no more than there may be.
+fn fits(call: u32, given: &[u8], numbers: usize) -> bool {
+    match call {
+        7 | 15 => given.len() / 8 <= numbers,
+        25 => modules::count(given) <= modules::MOST,
+        _ => true,
+    }
+}
+
+// Whether the frame is a call, its buffer has no more than `bytes`, and a string of numbers no more than `numbers`.
 pub fn suits(frame: &[u8], bytes: usize, numbers: usize) -> bool {
     let call = call_of(frame);
     if !frame::well_formed(frame, numbers_of(call), strings_of(call)) {
@@ -51,11 +61,7 @@ pub fn suits(frame: &[u8], bytes: usize, numbers: usize) -> bool {
     if bytes < buffer.len() {
         return false;
     }
-    if call != 7 && call != 15 {
-        return true;
-    }
-    let given = frame::string(frame, 1);
-    given.len() / 8 <= numbers
+    fits(call, frame::string(frame, 1), numbers)
 }
 
 // Puts the buffer that the frame gives in place, and answers how long it is; where it gives none, the one that is there stays.
@@ -77,6 +83,7 @@ pub fn make(frame: &mut [u8], buf: &mut [u8], numbers: &mut [u64], out: &mut [u8
         12 => crate::adds::begin(buf, out),
         13..=18 => crate::adds::make(call, frame, buf, numbers, out),
         19..=22 => crate::members::make(call, frame, buf, out),
+        25 => modules::make(frame, buf, out),
         _ => crate::questions::make(call, frame, buf, out),
     }
 }

@@ -5,6 +5,7 @@ mod attribute;
 mod calls;
 mod given;
 mod members;
+mod modules;
 mod outputs;
 mod questions;
 

@@ -99,6 +99,11 @@ impl Tally {
         self.shapes[place] += 1;
     }
 
+    /// Counts an answer whose number cannot be given there.
+    pub fn impossible(&mut self) {
+        self.strange += 1;
+    }
+
     /// How often that shape was met.
     pub fn met(&self, place: usize) -> u64 {
         self.shapes[place]
@@ -109,7 +114,7 @@ impl Tally {
     pub fn answer(&mut self, row: usize, number: u64, own: bool) {
         let place = number as usize;
         if number >= NUMBERS as u64 || self.rows[row].possible >> number & 1 == 0 {
-            self.strange += 1;
+            self.impossible();
             return;
         }
         self.numbers[row][place] += 1;

@@ -4,7 +4,7 @@
 #[allow(dead_code)] // A part of it is for the other tests.
 mod common;
 
-use common::{kernel, listed, numbers, platform, with};
+use common::{attribute, kernel, listed, numbers, platform, with};
 use ultra_model::driving::frame::*;
 use ultra_model::driving::table::*;
 use ultra_model::driving::{Answer, Driver, MALFORMED};
@@ -142,6 +142,16 @@ fn memory_is_so_long() {
     for call in [COPY_MAP, ADD_MAP] {
         assert!(!is_malformed(&frame(call, &[], &[b"", &zeros[..72_007]])));
         assert!(is_malformed(&frame(call, &[], &[b"", &zeros[..72_008]])));
+    }
+    // 16 modules of 88 bytes, with as many bytes left over as are no module; then one more.
+    for (length, too_long) in [
+        (1_408, false),
+        (1_495, false),
+        (1_496, true),
+        (131_073, true),
+    ] {
+        let modules = frame(ADD_MODULES, &[], &[b"", &zeros[..length]]);
+        assert_eq!(is_malformed(&modules), too_long, "{length} bytes");
     }
     for call in [COPY_MAP_BYTES, MEMBERS_ADD_MAP, ADD_COMMAND_LINE, LIST] {
         assert!(!is_malformed(&frame(call, &[], &[b"", &zeros])));
@@ -282,4 +292,135 @@ fn members_are_taken_as_they_are() {
     assert_eq!(add(ADD_MAP, &left_over), [0, 464]);
     assert_eq!(add(ADD_MAP, &map[..16]), [12, 432]);
     assert_eq!(add(MEMBERS_ADD_MAP, &left_over), [12, 432]);
+}
+
+/// A module of a list: its numbers, and its name with zeros after it.
+fn listed_module(kind: u64, address: u64, size: u64, name: &[u8]) -> Vec<u8> {
+    let mut bytes = [numbers(&[kind, address, size]), name.to_vec()].concat();
+    assert!(bytes.len() <= LISTED_MODULE_SIZE);
+    bytes.resize(LISTED_MODULE_SIZE, 0);
+    bytes
+}
+
+/// The attribute of a module of type 1.
+fn module_attribute(address: u64, size: u64, name: &[u8]) -> Vec<u8> {
+    let (address, size) = (address.to_le_bytes(), size.to_le_bytes());
+    let members = [(12, &[1][..]), (16, name), (80, &address), (88, &size)];
+    attribute(4, 96, &members)
+}
+
+#[test]
+fn modules_are_answered_with_their_number() {
+    let [a, b] = [b"a", b"b"].map(|name| listed_module(1, 4096, 7, name));
+    let context = [with(&[]), vec![0xEE; 200]].concat();
+    let mut driver = Driver::default();
+    let answer = driver.answer(&frame(ADD_MODULES, &[], &[&context, &[a, b].concat()]));
+    assert_eq!((answer.call, answer.lent), (25, true));
+    assert_eq!((answer.numbers, answer.strings.len()), (vec![0, 624, 2], 0));
+    let modules = [b"a", b"b"].map(|name| module_attribute(4096, 7, name));
+    assert_eq!(driver.buffer, [with(&modules), vec![0xEE; 8]].concat());
+}
+
+#[test]
+fn a_frame_of_modules_is_these_bytes() {
+    let module = listed_module(2, 0x1000, 0x0102, b"m");
+    let mut bytes = vec![
+        25, 0, 0, 0, 0, 0, 0, 0, 2, 0, 0, 0, 96, 0, 0, 0, // No number, two strings.
+        255, 255, 255, 255, // The buffer kept.
+        88, 0, 0, 0, // One module: type 2, address 4096, size 258, name "m".
+        2, 0, 0, 0, 0, 0, 0, 0, 0, 16, 0, 0, 0, 0, 0, 0, 2, 1, 0, 0, 0, 0, 0, 0, b'm',
+    ];
+    bytes.resize(16 + 4 + 4 + 88, 0);
+    assert_eq!(kept(ADD_MODULES, &[], &[&module]), bytes);
+
+    let mut out = Vec::new();
+    let mut driver = Driver::default();
+    let answer = driver.answer(&bytes);
+    driver.put_answer(&mut out, &answer);
+    // 1 with offset 0 and none added, and an empty buffer.
+    assert_eq!(out, frame(25, &[1, 0, 0], &[b""]));
+}
+
+#[test]
+fn no_modules_are_told_as_zeros() {
+    let mut driver = Driver::default();
+    let at_the_start = driver.answer(&kept(ADD_MODULES, &[], &[b""]));
+    assert_eq!(at_the_start.numbers, [0; 3]);
+    for left_over in [0, 1, 87] {
+        let list = vec![1; left_over];
+        for buffer in [&[][..], &[7; 7], &[9; 100], &listed()] {
+            let answer = driver.answer(&frame(ADD_MODULES, &[], &[buffer, &list]));
+            assert_eq!(answer.numbers, [0; 3]);
+            // It is the buffer that is kept, though the call does not look at it.
+            assert_eq!(driver.buffer, buffer);
+        }
+    }
+}
+
+#[test]
+fn a_refusal_leaves_the_modules_before_it() {
+    let good = listed_module(1, 0, 1, b"a");
+    let context = [with(&[]), vec![0xEE; 300]].concat();
+    let one = [with(&[module_attribute(0, 1, b"a")]), vec![0xEE; 204]].concat();
+    for (bad, number) in [
+        (listed_module(3, 0, 1, b"b"), 13),
+        (listed_module(1 << 32, 0, 1, b"b"), 13),
+        (listed_module(1, 8, 1, b"b"), 13),
+        (listed_module(1, 0, 1, &[b'b'; 64]), 14),
+        (listed_module(1, 0, 1, b"b\0b"), 14),
+        (listed_module(1, 0, 1, b"\x80"), 14),
+        (listed_module(1, 4096, u64::MAX - 4094, b"b"), 15),
+    ] {
+        let list = [&good[..], &bad, &good].concat();
+        let mut driver = Driver::default();
+        let answer = driver.answer(&frame(ADD_MODULES, &[], &[&context, &list]));
+        assert_eq!(answer.numbers, [number, 528, 1]);
+        assert_eq!(driver.buffer, one);
+        // The buffer kept has them, too.
+        let read = driver.answer(&kept(READ, &[], &[]));
+        assert_eq!(read.numbers, [0, 528, 1, 0]);
+        let more = driver.answer(&kept(ADD_MODULES, &[], &[&good]));
+        assert_eq!(more.numbers, [0, 624, 1]);
+    }
+}
+
+#[test]
+fn members_of_listed_modules_are_as_of_records() {
+    let context = [with(&[]), vec![0xEE; 96]].concat();
+    let add = |module: Vec<u8>| {
+        let mut driver = Driver::default();
+        let answer = driver.answer(&frame(ADD_MODULES, &[], &[&context, &module]));
+        (answer.numbers, driver.buffer)
+    };
+    let added = |name: &[u8]| (vec![0, 528, 1], with(&[module_attribute(0, 1, name)]));
+    let full = [b'a'; 63];
+    // A type is taken by its low bits, and a name without the zeros after it.
+    assert_eq!(add(listed_module(1 << 32 | 1, 0, 1, b"ab")), added(b"ab"));
+    assert_eq!(
+        add(listed_module(u64::MAX << 32 | 1, 0, 1, b"")),
+        added(b"")
+    );
+    assert_eq!(add(listed_module(1, 0, 1, &full)), added(&full));
+    // Bytes left over are no part of a module.
+    let left_over = [listed_module(1, 0, 1, b"ab"), vec![0xFF; 87]].concat();
+    assert_eq!(add(left_over), added(b"ab"));
+}
+
+#[test]
+fn sixteen_modules_are_added_and_seventeen_are_none() {
+    let module = listed_module(1, 0, 1, b"a");
+    let context = [with(&[]), vec![0xEE; 17 * 96]].concat();
+    let mut driver = Driver::default();
+    let most = frame(ADD_MODULES, &[], &[&context, &module.repeat(16)]);
+    assert_eq!(driver.answer(&most).numbers, [0, 432 + 16 * 96, 16]);
+    // The buffer that was kept stays, and no module is taken out of a frame with too many.
+    let before = driver.buffer.clone();
+    let too_many = module.repeat(17);
+    for frame in [
+        frame(ADD_MODULES, &[], &[&context, &too_many]),
+        kept(ADD_MODULES, &[], &[&too_many]),
+    ] {
+        assert_eq!(driver.answer(&frame).call, MALFORMED);
+        assert_eq!(driver.buffer, before);
+    }
 }

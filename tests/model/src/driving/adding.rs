@@ -3,15 +3,27 @@
 use crate::building;
 use crate::driving::table::*;
 use crate::driving::Answer;
-use crate::format::{GUID_SIZE, MODULE_NAME_WIDTH, NAME_WIDTH, PATH_WIDTH};
+use crate::format::{self, u64_at, GUID_SIZE, MODULE_NAME_WIDTH, NAME_WIDTH, PATH_WIDTH};
 use crate::records::{text_for, Framebuffer, Kernel, Module, Platform};
+use crate::requests::several_modules::{add_modules, Several};
 
 /// The bits of *present* where no member is absent.
 const ALL_PRESENT: u64 = 0b1111;
 
-/// Makes the call of this number. Numbers are taken by their low bits.
-pub fn answer(buf: &mut [u8], call: u32, n: &[u64], strings: &[&[u8]]) -> Answer {
-    let answered = match call {
+/// Makes the call of this number.
+pub fn answer(buf: &mut [u8], call: u32, numbers: &[u64], strings: &[&[u8]]) -> Answer {
+    match call {
+        ADD_MODULES => {
+            let Several { answer, added } = add_modules(buf, &modules(strings[0]));
+            Answer::new(answer, &[added as u64])
+        }
+        _ => Answer::new(single(buf, call, numbers, strings), &[]),
+    }
+}
+
+/// Beginning, or the add of one record. Numbers are taken by their low bits.
+fn single(buf: &mut [u8], call: u32, n: &[u64], strings: &[&[u8]]) -> format::Answer {
+    match call {
         BEGIN => building::begin(buf),
         ADD_PLATFORM => {
             let name = array(strings[0], NAME_WIDTH);
@@ -45,8 +57,7 @@ pub fn answer(buf: &mut [u8], call: u32, n: &[u64], strings: &[&[u8]]) -> Answer
         }
         ADD_COMMAND_LINE => building::add_command_line(buf, strings[0]),
         _ => building::add_framebuffer(buf, &framebuffer(n)),
-    };
-    Answer::new(answered, &[])
+    }
 }
 
 /// "a shorter string has zeros after it, and of a longer one the rest is left out"
@@ -101,6 +112,19 @@ fn module<'a>(n: &[u64], name: Option<&'a [u8]>) -> Module<'a> {
         address: n[1],
         size: n[2],
     }
+}
+
+/// "of each the type, the address and the size, numbers of 8 bytes each, then the 64 bytes of its
+/// name"; "a rest of fewer than 88 bytes after them counts for nothing".
+fn modules(given: &[u8]) -> Vec<Module<'_>> {
+    given
+        .chunks_exact(LISTED_MODULE_SIZE)
+        .map(|bytes| {
+            let (numbers, name) = bytes.split_at(24);
+            let numbers = [0, 8, 16].map(|at| u64_at(numbers, at));
+            module(&numbers, text_of(name))
+        })
+        .collect()
 }
 
 fn framebuffer(n: &[u64]) -> Framebuffer {

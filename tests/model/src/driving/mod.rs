@@ -7,7 +7,7 @@ pub mod frame;
 pub mod table;
 
 use crate::driving::frame::{parse_frame, put_frame, Frame, Head, Lent, HEAD_LENGTH};
-use crate::driving::table::{arguments, takes_numbers, BUFFER_LIMIT, NUMBERS_LIMIT};
+use crate::driving::table::{adds, arguments, list_limit, BEGIN, BUFFER_LIMIT};
 use crate::format;
 
 /// The call that a malformed frame is answered with.
@@ -71,8 +71,8 @@ impl Driver {
         let strings: Vec<&[u8]> = frame.strings.iter().map(bytes).collect();
         let given = strings.get(1..).unwrap_or_default();
         let answer = match frame.call {
-            table::BEGIN..=table::MEMBERS_ADD_MODULE => {
-                adding::answer(&mut self.buffer, frame.call, &frame.numbers, given)
+            call if call == BEGIN || adds(call) => {
+                adding::answer(&mut self.buffer, call, &frame.numbers, given)
             }
             call => asking::answer(&self.buffer, call, &frame.numbers, given),
         };
@@ -123,5 +123,5 @@ fn is_well_formed(frame: &Frame) -> bool {
     let length = |place| frame.strings.get(place).map_or(0, |s| bytes(s).len());
     arguments(frame.call) == Some(given)
         && length(0) <= BUFFER_LIMIT
-        && !(takes_numbers(frame.call) && length(1) / 8 > NUMBERS_LIMIT)
+        && list_limit(frame.call).is_none_or(|(size, most)| length(1) / size <= most)
 }

@@ -1,9 +1,13 @@
 //! The published calls by their number.
 
-/// "whose buffer or map is longer than there is memory for"
+/// "that has more than 131,072 bytes of buffer"
 pub const BUFFER_LIMIT: usize = 131_072;
 /// "there may be at most 9,000 of them": numbers of a map, given or asked for.
 pub const NUMBERS_LIMIT: usize = 9_000;
+/// "A frame may give at most 16 modules".
+pub const MODULES_LIMIT: usize = 16;
+/// How many bytes a module of a list has: three numbers and its name.
+pub const LISTED_MODULE_SIZE: usize = 88;
 
 pub const READ: u32 = 1;
 pub const FIRST: u32 = 2;
@@ -29,9 +33,10 @@ pub const MEMBERS_ADD_MAP: u32 = 21;
 pub const MEMBERS_ADD_MODULE: u32 = 22;
 pub const LIST: u32 = 23;
 pub const LISTING_LENGTH: u32 = 24;
+pub const ADD_MODULES: u32 = 25;
 
 /// How many calls there are: 1 to this.
-pub const LAST: u32 = LISTING_LENGTH;
+pub const LAST: u32 = ADD_MODULES;
 
 /// How many numbers and strings a call is given, the buffer among them; none for a call that
 /// is not in the table.
@@ -44,14 +49,24 @@ pub fn arguments(call: u32) -> Option<(usize, usize)> {
         COPY_MAP | COPY_MAP_BYTES | LIST => (0, 2),
         ADD_PLATFORM | MEMBERS_ADD_PLATFORM => (9, 2),
         ADD_KERNEL | MEMBERS_ADD_KERNEL => (6, 4),
-        ADD_MAP | MEMBERS_ADD_MAP | ADD_COMMAND_LINE => (0, 2),
+        ADD_MAP | MEMBERS_ADD_MAP | ADD_COMMAND_LINE | ADD_MODULES => (0, 2),
         ADD_MODULE | MEMBERS_ADD_MODULE => (3, 2),
         ADD_FRAMEBUFFER => (6, 1),
         _ => return None,
     })
 }
 
-/// Whether the call's second string becomes a list of 64-bit numbers.
-pub fn takes_numbers(call: u32) -> bool {
-    matches!(call, COPY_MAP | ADD_MAP)
+/// Whether the call adds: a single record, or a list of modules.
+pub fn adds(call: u32) -> bool {
+    matches!(call, ADD_PLATFORM..=MEMBERS_ADD_MODULE | ADD_MODULES)
+}
+
+/// Where the call's second string may list only so many: how many bytes one has, and how many
+/// there may be. Bytes left over after the last one count for nothing.
+pub fn list_limit(call: u32) -> Option<(usize, usize)> {
+    match call {
+        COPY_MAP | ADD_MAP => Some((8, NUMBERS_LIMIT)),
+        ADD_MODULES => Some((LISTED_MODULE_SIZE, MODULES_LIMIT)),
+        _ => None,
+    }
 }

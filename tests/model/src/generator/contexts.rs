@@ -6,6 +6,8 @@ use crate::generator::records::{lend, other_type, Record};
 use crate::generator::rng::Rng;
 
 pub const ROOM: usize = 65_536;
+/// As many attributes as a context can have.
+const COUNT: usize = 1_024;
 
 /// A head and attributes, each with its header: bytes that may or may not be a context.
 #[derive(Clone)]
@@ -715,6 +717,60 @@ pub fn large(rng: &mut Rng) -> Start {
         bytes.extend(Record::Other(AFTER, 8).attribute());
     }
     cut_at(rng, bytes, length)
+}
+
+/// A context that has room for so many modules after it, or not quite. Those that it has
+/// mostly come last, so that more may follow. Now and then it has about 1,024 attributes, or
+/// its room ends at 65,536.
+pub fn for_modules(rng: &mut Rng, count: usize) -> Vec<u8> {
+    let foreign = rng.chance(40);
+    let mut types = types(rng, foreign);
+    if rng.chance(85) {
+        types.sort_by_key(|kind| *kind == 4);
+    }
+    let mut layout = Layout::of(&good_records(rng, &types));
+    if foreign {
+        layout.make_foreign(rng);
+    }
+    let mut spare = room_for_modules(rng, count);
+    match rng.below(150) {
+        0..=4 => {
+            // The list is full before the modules end, or just then.
+            let attributes = COUNT - rng.below(count + 1) - layout.attributes.len();
+            fill_after_kernel(&mut layout, vec![8; attributes]);
+        }
+        5..=7 => {
+            // The room ends there, and the buffer goes on or not.
+            let filler = ROOM - layout.used() - spare;
+            fill_after_kernel(&mut layout, vec![filler.next_multiple_of(8)]);
+            spare = ROOM - layout.used() + rng.pick(&[0, 0, 1, 8, 96, 3_000]);
+        }
+        _ => {}
+    }
+    let mut bytes = layout.bytes();
+    bytes.extend(junk(rng, spare));
+    bytes
+}
+
+/// Room for that many modules or fewer, to the byte, or a little more or less.
+fn room_for_modules(rng: &mut Rng, count: usize) -> usize {
+    let fewer = rng.below(count + 1);
+    match rng.below(10) {
+        0..=3 => 96 * count,
+        4 | 5 => 96 * count + rng.below(200),
+        6 => (96 * count).saturating_sub(1),
+        7 => 96 * fewer,
+        8 => 96 * fewer + 95,
+        _ => 96 * fewer + rng.below(96),
+    }
+}
+
+/// Puts attributes of these sizes, and of a type of their own, where no run is broken by them.
+fn fill_after_kernel(layout: &mut Layout, sizes: Vec<usize>) {
+    let fillers = sizes.into_iter().map(|size| Record::Other(FILLER, size));
+    let fillers = fillers.map(|filler| filler.attribute());
+    layout.attributes.splice(2..2, fillers);
+    layout.recount();
 }
 
 /// Makes a context `end` bytes long: by a long map, a long line or many modules where one

@@ -1,13 +1,14 @@
 //! Seeded inputs, for the programs that compare the library and the listing with the model:
-//! numbers ([`rng`]), [`records`] and their attributes, [`contexts`], good and bad, and calls
-//! ([`mod@call`]) with [`arguments`] that suit them, alone and in sequences ([`inputs`]). All
-//! of it comes from a seed and an index alone.
+//! numbers ([`rng`]), [`records`] and their attributes, lists of modules ([`module_lists`]),
+//! [`contexts`], good and bad, and calls ([`mod@call`]) with [`arguments`] that suit them, alone
+//! and in sequences ([`inputs`]). All of it comes from a seed and an index alone.
 
 pub mod arguments;
 pub mod call;
 pub mod contexts;
 pub mod given;
 pub mod inputs;
+pub mod module_lists;
 pub mod records;
 pub mod rng;
 

@@ -416,6 +416,15 @@ fn spoil_module(rng: &mut Rng, record: &mut Module) {
     }
 }
 
+impl Module {
+    /// A module with this many of its rules broken.
+    pub fn new(rng: &mut Rng, spoilt: usize) -> Module {
+        let mut record = module(rng);
+        (0..spoilt).for_each(|_| spoil_module(rng, &mut record));
+        record
+    }
+}
+
 fn framebuffer(rng: &mut Rng) -> Framebuffer {
     let format = 1 + rng.below(4) as u16;
     let bytes = if format <= 2 { 3 } else { 4 };
@@ -506,11 +515,7 @@ impl Record {
                 Record::Kernel(record)
             }
             3 => Record::Map(map(rng, spoilt)),
-            4 => {
-                let mut record = module(rng);
-                (0..spoilt).for_each(|_| spoil_module(rng, &mut record));
-                Record::Module(record)
-            }
+            4 => Record::Module(Module::new(rng, spoilt)),
             5 => {
                 let mut text = line(rng);
                 (0..spoilt).for_each(|_| spoil_text(rng, &mut text, 0));

@@ -2,7 +2,7 @@
 //! published forms, on both.
 
 use ultra_model::driving::frame::{put_frame, Lent};
-use ultra_model::driving::table::{BEGIN, COMMAND_LINE, FIRST, LISTING_LENGTH, MEMBERS_ADD_MODULE};
+use ultra_model::driving::table::{adds, COMMAND_LINE, FIRST, LISTING_LENGTH};
 use ultra_model::driving::{Answer, Driver};
 use ultra_model::generator::call::Call;
 use ultra_model::generator::given::Start;
@@ -86,8 +86,8 @@ impl Driven {
         let before = next.unwrap_or_else(|| self.model.buffer.clone());
         let mut frame = std::mem::take(&mut self.frame);
         put(&mut frame, asked, lends.then_some(lent(&before, kept)));
-        let adds = (BEGIN + 1..=MEMBERS_ADD_MODULE).contains(&asked.call);
-        let accepted = adds && *self.accepted.get_or_insert_with(|| adding_accepts(&before));
+        let accepted =
+            adds(asked.call) && *self.accepted.get_or_insert_with(|| adding_accepts(&before));
         let answer = self.send(&frame, |whole| {
             put(whole, asked, lends.then_some(Lent::Bytes(&before)))
         });

@@ -1,14 +1,15 @@
-//! The longest buffers, maps, outputs and frames that the program takes.
+//! The longest buffers, maps, outputs, lists and frames that the program takes.
 
 use ultra_model::driving::frame::{FRAME_LIMIT, HEAD_LENGTH};
 use ultra_model::driving::table::*;
 use ultra_model::generator::contexts;
 use ultra_model::generator::inputs::Difference;
+use ultra_model::generator::module_lists;
 use ultra_model::generator::records::Record;
 use ultra_model::generator::rng::Rng;
 
 use crate::bench::Driven;
-use crate::spelling::Asked;
+use crate::spelling::{self, Asked};
 
 pub fn run(bench: &mut Driven, rng: &mut Rng) -> Result<(), Difference> {
     // A context at the start of the longest buffer.
@@ -33,6 +34,20 @@ pub fn run(bench: &mut Driven, rng: &mut Rng) -> Result<(), Difference> {
         // With the kept buffer a frame has its head and two lengths besides the string.
         let string = rng.bytes(FRAME_LIMIT - HEAD_LENGTH - 8);
         bench.make_kept(&Asked::new(call, &[], &[&string]))?;
+    }
+    most_modules(bench, rng)
+}
+
+/// As many modules as a frame may give, with as many bytes left over as are no module.
+fn most_modules(bench: &mut Driven, rng: &mut Rng) -> Result<(), Difference> {
+    bench.load(contexts::for_modules(rng, 3 * MODULES_LIMIT));
+    for left_over in [0, LISTED_MODULE_SIZE - 1] {
+        let list = module_lists::good(rng, MODULES_LIMIT);
+        let mut asked = spelling::module_list(rng, &list);
+        let string = &mut asked.strings[0];
+        string.truncate(MODULES_LIMIT * LISTED_MODULE_SIZE);
+        string.extend(rng.bytes(left_over));
+        bench.make(&asked)?;
     }
     Ok(())
 }

@@ -26,6 +26,7 @@ mod link;
 mod malformed;
 mod program;
 mod run;
+mod several;
 mod spelling;
 mod tally;
 mod telling;

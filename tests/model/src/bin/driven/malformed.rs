@@ -11,7 +11,7 @@ use crate::spelling::Asked;
 use crate::tally::Shape;
 
 /// The ways in which a frame is malformed.
-const SHAPES: [Shape; 9] = [
+const SHAPES: [Shape; 10] = [
     Shape::UnknownCall,
     Shape::OtherNumbers,
     Shape::OtherStrings,
@@ -21,6 +21,7 @@ const SHAPES: [Shape; 9] = [
     Shape::CountsThatWrap,
     Shape::BufferTooLong,
     Shape::MapTooLong,
+    Shape::TooManyModules,
 ];
 
 /// Malformed frames, and after each a call that shows the buffer.
@@ -75,6 +76,7 @@ fn make(rng: &mut Rng, shape: Shape) -> Vec<u8> {
         Shape::StringPastTheEnd => string_past_the_end(rng),
         Shape::CountsThatWrap => counts_that_wrap(rng, call),
         Shape::BufferTooLong => buffer_too_long(rng),
+        Shape::TooManyModules => too_many_modules(rng),
         _ => map_too_long(rng),
     }
 }
@@ -114,7 +116,7 @@ fn told(mut frame: Vec<u8>) -> Vec<u8> {
 
 /// The string after the buffer says that it is longer than what follows, or that it is kept.
 fn string_past_the_end(rng: &mut Rng) -> Vec<u8> {
-    let call = rng.pick(&[COPY_MAP_BYTES, ADD_COMMAND_LINE, ADD_MAP, LIST]);
+    let call = rng.pick(&[COPY_MAP_BYTES, ADD_COMMAND_LINE, ADD_MAP, LIST, ADD_MODULES]);
     let length = 8 * rng.below(5);
     let (buffer, string) = (rng.bytes(20), rng.bytes(length));
     let mut frame = Vec::new();
@@ -157,9 +159,27 @@ fn buffer_too_long(rng: &mut Rng) -> Vec<u8> {
 fn map_too_long(rng: &mut Rng) -> Vec<u8> {
     let call = rng.pick(&[COPY_MAP, ADD_MAP]);
     let length = 8 * (NUMBERS_LIMIT + 1) + rng.pick(&[0, 0, 7, 8, 30_000]);
-    let (buffer, map) = (rng.bytes(40), vec![1; length]);
+    list_too_long(rng, call, length)
+}
+
+fn too_many_modules(rng: &mut Rng) -> Vec<u8> {
+    let more = rng.pick(&[
+        0,
+        0,
+        1,
+        LISTED_MODULE_SIZE - 1,
+        LISTED_MODULE_SIZE,
+        1_000_000,
+    ]);
+    let length = LISTED_MODULE_SIZE * (MODULES_LIMIT + 1) + more;
+    list_too_long(rng, ADD_MODULES, length)
+}
+
+/// A call with the buffer kept or given, and a second string of that length.
+fn list_too_long(rng: &mut Rng, call: u32, length: usize) -> Vec<u8> {
+    let (buffer, list) = (rng.bytes(40), vec![1; length]);
     let buffer = rng.pick(&[Lent::Kept, Lent::Bytes(&buffer)]);
     let mut frame = Vec::new();
-    put_frame(&mut frame, call, &[], &[buffer, Lent::Bytes(&map)]);
+    put_frame(&mut frame, call, &[], &[buffer, Lent::Bytes(&list)]);
     frame
 }

@@ -16,7 +16,7 @@ use crate::bench::Driven;
 use crate::endings::Otherwise;
 use crate::link::{Found, Link};
 use crate::tally::{gaps, ROWS, SHAPES};
-use crate::{again, endings, limits, malformed};
+use crate::{again, endings, limits, malformed, several};
 
 /// How many programs run at a time.
 const PROGRAMS: u64 = 2;
@@ -47,7 +47,7 @@ fn input(bench: &mut Driven, seed: u64, index: u64) -> Result<(), Difference> {
     if index.is_multiple_of(LIMITS_EVERY) {
         limits::run(bench, rng)?;
     }
-    Ok(())
+    several::run(bench, rng)
 }
 
 pub fn all(run: &Run) -> ExitCode {

@@ -164,6 +164,30 @@ fn module(rng: &mut Rng, record: &Module, faults: bool) -> Asked {
     Asked::new(call, &numbers, &[&name])
 }
 
+/// A list of modules in one string. Now and then bytes are left over, which are no module.
+pub fn module_list(rng: &mut Rng, list: &[Module]) -> Asked {
+    let mut string = Vec::new();
+    for record in list {
+        string.extend(listed_module(rng, record));
+    }
+    if rng.chance(10) {
+        let any = 1 + rng.below(LISTED_MODULE_SIZE - 1);
+        let more = rng.pick(&[1, 8, 24, LISTED_MODULE_SIZE - 1, any]);
+        string.extend(rng.bytes(more));
+    }
+    Asked::new(ADD_MODULES, &[], &[&string])
+}
+
+/// The numbers of a module, and its name as an array. Which modules have a fault, the list says.
+fn listed_module(rng: &mut Rng, record: &Module) -> Vec<u8> {
+    let numbers = [wide(rng, record.kind, 32), record.address, record.size];
+    let mut name = for_array(rng, &record.name.bytes, MODULE_NAME_WIDTH, false);
+    name.resize(MODULE_NAME_WIDTH, 0);
+    let mut bytes = numbers.map(u64::to_le_bytes).concat();
+    bytes.extend(name);
+    bytes
+}
+
 fn framebuffer(rng: &mut Rng, record: &Framebuffer) -> Asked {
     let numbers = [
         wide(rng, record.width, 32),

@@ -1,5 +1,7 @@
 //! What the published calls can answer, and the shapes that have to be met.
 
+mod several;
+
 use ultra_model::driving::table::*;
 use ultra_model::driving::Answer;
 use ultra_model::format::{self, MODULE_NAME_WIDTH, NAME_WIDTH, PATH_WIDTH};
@@ -36,6 +38,7 @@ pub const ROWS: &[Row; LAST as usize] = &[
     adding("members::add_module", &[11, 13, 14, 15]),
     asking("list", set(&[0, 18])),
     asking("listing_length", NONE),
+    adding("add_modules", &[11, 13, 14, 15]),
 ];
 
 ultra_model::shapes! {
@@ -75,6 +78,7 @@ ultra_model::shapes! {
     StepToAttribute: "steps to an attribute",
     StepToTheEnd: "steps to the end",
     IndexPastTheCount: "attributes asked for at or past the count",
+    StartPastTheCount: "starts asked for at or past the count",
     PlatformRecord: "platforms handed back",
     KernelRecord: "kernels handed back",
     MapRecord: "maps handed back, by their place",
@@ -102,6 +106,49 @@ ultra_model::shapes! {
     ModuleFound: "addresses held by a module",
     NoModule: "addresses held by none",
     Rebuilt: "contexts built again from their reading",
+    NoModulesToAccepted: "lists of no modules to a buffer that adding accepts",
+    NoModulesToFull: "lists of no modules to 1,024 attributes",
+    NoModulesToRefused: "lists of no modules to a buffer that adding refuses",
+    NoModulesToShort: "lists of no modules to 1 to 7 bytes",
+    NoModulesToNoBytes: "lists of no modules to no bytes",
+    ModuleAdded: "lists of one module, added",
+    ModulesAdded: "lists of several modules, all added",
+    MostModulesAdded: "lists of 16 modules, all added",
+    ModulesJustFit: "lists of several modules that end where the room does",
+    ModulesUpToTheLimit: "lists that end at 65,536 in a longer buffer",
+    ModulesToForeign: "lists added to a context of another version than 1.0",
+    ModulesKeptChanged: "lists to the buffer kept, which a call before had changed",
+    ModulesBytesLeft: "lists with bytes left over",
+    ModulesNumberWide: "lists with a type wider than 32 bits",
+    BufferPlace: "lists refused as 9 by reading",
+    BufferSplit: "lists refused as 11 by reading",
+    BufferValue: "lists refused as 13 by reading",
+    BufferText: "lists refused as 14 by reading",
+    BufferRange: "lists refused as 15 by reading",
+    BufferOther: "lists refused by reading as no module is",
+    FirstPlace: "lists refused as 9 for their first module",
+    FirstSplit: "lists refused as 11 for their first module",
+    FirstValue: "lists refused as 13 for their first module",
+    FirstText: "lists refused as 14 for their first module",
+    FirstRange: "lists refused as 15 for their first module",
+    FirstFull: "lists refused as 17 for their first module",
+    FirstRoom: "lists refused as 18 for their first module",
+    LaterValue: "lists refused as 13 after modules were added",
+    LaterText: "lists refused as 14 after modules were added",
+    LaterRange: "lists refused as 15 after modules were added",
+    LaterFull: "lists refused as 17 after modules were added",
+    LaterRoom: "lists refused as 18 after modules were added",
+    FirstBad: "lists of several modules whose first is bad",
+    BetweenBad: "lists of several modules with a bad one between the first and the last",
+    LastBad: "lists of several modules of which only the last is bad",
+    ModuleKind: "lists refused for a module's type alone",
+    ModuleAddress: "lists refused for a module's address alone",
+    ModuleNameOpen: "lists refused for a name that has no zero",
+    ModuleNameAfterZero: "lists refused for a name with bytes after a zero",
+    ModuleNameHigh: "lists refused for a name with a byte above 127",
+    ModulesByteShort: "lists that lack one byte of room",
+    ModulesPastTheLimit: "lists that would pass 65,536 in a longer buffer",
+    OneByOne: "lists beside the same modules added one by one",
     UnknownCall: "malformed: a call that is not in the table",
     OtherNumbers: "malformed: a number more or less",
     OtherStrings: "malformed: a string more or less",
@@ -111,6 +158,7 @@ ultra_model::shapes! {
     CountsThatWrap: "malformed: counts that are right modulo 2^32",
     BufferTooLong: "malformed: a buffer of more than 131,072 bytes",
     MapTooLong: "malformed: a map or output of more than 9,000 numbers",
+    TooManyModules: "malformed: more than 16 modules",
 }
 
 /// A call that both sides made.
@@ -147,6 +195,10 @@ impl Shapes<'_> {
         self.0.shape(shape as usize);
     }
 
+    fn impossible(&mut self) {
+        self.0.impossible();
+    }
+
     fn met_if(&mut self, condition: bool, shape: Shape) {
         if condition {
             self.met(shape);
@@ -164,6 +216,11 @@ pub fn count(tally: &mut Tally, made: &Made) {
     match call {
         STEP => step(shapes, made),
         ATTRIBUTE => attribute(shapes, made),
+        // A count above 1,024 is 3 at 0.
+        ATTRIBUTE_START => shapes.met_if(
+            (made.number(), made.value() > 0) == (3, true),
+            Shape::StartPastTheCount,
+        ),
         ATTRIBUTE_PART => part(shapes, made),
         COPY_MAP | COPY_MAP_BYTES => copied(shapes, made),
         COMMAND_LINE => line(shapes, made),
@@ -179,6 +236,7 @@ pub fn count(tally: &mut Tally, made: &Made) {
             shapes.met_if(made.given().len() / 8 == NUMBERS_LIMIT, Shape::MapLongest);
         }
         LIST => list(shapes, made),
+        ADD_MODULES => several::count(shapes, made),
         _ => {}
     }
     shapes.met_if(has_wide_number(made.asked), Shape::NumberWide);
