@@ -39,10 +39,22 @@ pub fn past_the_top(index: usize) -> [ModuleRecord; 16] {
     with(index, module)
 }
 
+// The second to the top, and the third of type 0.
+pub fn unlike() -> [ModuleRecord; 16] {
+    let mut modules = untyped(2);
+    let module = at_the_top();
+    modules[1] = module;
+    modules
+}
+
 // Its last byte is at 2^64 - 1.
-pub fn to_the_top(index: usize) -> [ModuleRecord; 16] {
+pub fn at_the_top() -> ModuleRecord {
     let mut module = given::module();
     module.address = 18446744073709547520;
     module.size = 4096;
-    with(index, module)
+    module
+}
+
+pub fn to_the_top(index: usize) -> [ModuleRecord; 16] {
+    with(index, at_the_top())
 }

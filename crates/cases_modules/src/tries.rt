@@ -1,5 +1,5 @@
 // Each call on a copy of a buffer, and its line: the answer, how many modules were added, and how many bytes changed. A module changes 96 bytes
-// of a buffer of 165s, and those that are added one of the head's count.
+// of a buffer of 165s, and those that are added change one byte of the count.
 ghost use Prim.Native.Nat.{_≤_};
 use crate::buffers;
 use crate::lists;
@@ -178,13 +178,14 @@ pub fn to_1023_attributes() {
 // "with the same bytes .. as adding them one by one"
 pub fn beside_single_adds() {
     let mut one_by_one = context::kernel();
-    let module = given::module();
-    ultra_building::add_module(&mut one_by_one, module);
-    ultra_building::add_module(&mut one_by_one, module);
+    let first = given::module();
+    ultra_building::add_module(&mut one_by_one, first);
+    let second = lists::at_the_top();
+    ultra_building::add_module(&mut one_by_one, second);
     let after = try_on(
-        b"two modules and one of type 0",
+        b"two unlike modules and one of type 0",
         context::kernel(),
-        lists::untyped(2),
+        lists::unlike(),
         3,
     );
     print::number(

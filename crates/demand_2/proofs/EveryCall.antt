@@ -268,6 +268,10 @@ pub other-kept : AllTyped (adds sixAdditions) → (i : ℕ) → (i < 4) ⊎ (96 
 other-kept w i h = other w .others i (⊎-elim inl (λ l. inr (inr l)) h)
 
 -- ---- arguments of any length
+more-modules : (ms ns : List ModuleRecord) → ModulesTyped ms → ModulesTyped ns → ModulesTyped (ms ++ ns)
+more-modules [] ns y z = z
+more-modules (m ∷ ms) ns y z = (y .0, more-modules ms ns (y .1) z)
+
 -- a call that is no add
 other-typed : (k : Call) → ((g : Addition) → k ≡ write (add g) → ⊥) → ((m : Members) → k ≡ write (addMembers m) → ⊥)
     → ((ms : List ModuleRecord) → k ≡ write (addModules ms) → ⊥) → CallTyped k
@@ -284,6 +288,7 @@ any-arguments =
       lines = λ t y. (y, (y, tt));
       noMap = (tt, tt);
       noModules = (tt, tt);
+      moreModules = λ ms ns y. (more-modules ms ns (y .0) (y .1 .0), tt);
       noMembers =
           (record { kind = omega arith; loaderMajor = omega arith; loaderMinor = omega arith; name = (refl, some-bytes (zeros 32) refl); rsdp = omega arith; higherHalfBase = tt; depth = tt; dtb = tt; smbios = tt }, tt);
       joined = joined;

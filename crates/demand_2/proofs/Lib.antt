@@ -10,4 +10,5 @@ pub mod Rebuilding
 pub mod Demand2
 pub mod EveryCall
 pub mod SeveralModules
+pub mod Writes
 pub mod Witness

@@ -1,12 +1,10 @@
 -- Several modules in one call are single adds in a row: of a buffer that follows a list, of any buffer, and of any that holds a context.
 use Prim.Native.Nat.{ℕ, zero, suc, _+_, _≤_, _<_}
-use mathlib.Core.Path.{_≡_, refl, sym, ap, _∙_, subst}
-use mathlib.Core.Bool.{true}
-use mathlib.Core.List.{List, [], _∷_, _++_, append-assoc, append-nil}
+use mathlib.Core.Path.{_≡_, refl, sym, _∙_, subst}
+use mathlib.Core.List.{List, [], _∷_, append-assoc, append-nil}
 use native.Mathlib.Nat.{not-suc-le-zero, le-of-suc-le-suc}
 use native.Mathlib.Omega.{arith}
 use lib.ListN.{length, take}
-use Rattle.refusals.specs.Answers.{numberOf}
 use Rattle.refusals.specs.declared.Answer.{Answer}
 use Rattle.refusals.specs.declared.Answer.the-variants.{Done, Refused}
 use Rattle.ultra_format.specs.Contexts.{Attribute, Context}
@@ -14,10 +12,10 @@ use Rattle.ultra_format.specs.Additions.{Addition, Addition.addModule, attribut
 use Rattle.ultra_format.specs.declared.records.ModuleRecord.{ModuleRecord}
 use Rattle.ultra_acceptance.specs.Acceptance.{HoldsContext}
 use Rattle.ultra_modules.specs.declared.ModulesAdded.{ModulesAdded}
-use Rattle.ultra_modules.specs.Modules.{soFar, ifDone, inTurn, moduleAdded, modulesAdded}
-use Rattle.ultra_modules.specs.OneByOne.{afterAdds, singleAdd, Accepted, OneByOne}
+use Rattle.ultra_modules.specs.Modules.{answerAndCount, ifDone, inTurn, moduleAdded, modulesAdded}
+use Rattle.ultra_modules.specs.OneByOne.{afterAdds, singleAdd, Accepted}
 use Rattle.ultra_modules.proofs.OneByOne.{module-number, one-by-one}
-use Rattle.demand_2.specs.Calls.{Write.addModules, Call.write, Reply, Reply.several, runWrite, run}
+use Rattle.demand_2.specs.Calls.{runWrite}
 use Rattle.demand_2.specs.CallsFromC.{after, replies}
 use Rattle.demand_2.specs.Arguments.{ModuleTyped, ModulesTyped}
 use Rattle.demand_2.specs.Model.{attributesGiven, moduleListed}
@@ -44,8 +42,8 @@ module _ (room : ℕ) (Alike : List ℕ → List Addition → Type 0)
     where
       Next : Answer → Answer → Type 0
       Next x z =
-          Both (ifDone x (inTurn moduleAdded x (n + 1) (moduleAdded d m .1) ms) (soFar x n, moduleAdded d m .1))
-          (ifDone z (inTurn (moduleListed room) z (n + 1) (moduleListed room gs m .1) ms) (soFar z n, moduleListed room gs m .1))
+          Both (ifDone x (inTurn moduleAdded x (n + 1) (moduleAdded d m .1) ms) (answerAndCount x n, moduleAdded d m .1))
+          (ifDone z (inTurn (moduleListed room) z (n + 1) (moduleListed room gs m .1) ms) (answerAndCount z n, moduleListed room gs m .1))
 
       go : (x : Answer) → Alike (moduleAdded d m .1) (moduleListed room gs m .1)
           → ((z : Answer) → Both (inTurn moduleAdded z (n + 1) (moduleAdded d m .1) ms) (inTurn (moduleListed room) z (n + 1) (moduleListed room gs m .1) ms))
@@ -68,14 +66,13 @@ all-succeeded b [] (suc n) l f = absurd (not-suc-le-zero l)
 all-succeeded b (m ∷ ms) (suc n) l f =
     ((moduleAdded b m .0, refl, f 0 (omega arith)), all-succeeded (moduleAdded b m .1) ms n (le-of-suc-le-suc l) (λ i k. f (suc i) (omega arith)))
 
-pub stays : (b : List ℕ) (ms : List ModuleRecord) (s : ModulesAdded) → run (write (addModules ms)) b .0 ≡ several s
-    → (run (write (addModules ms)) b .1 ≡ after (adds (modulesGiven (take (s .added) ms))) b)
-    × AllSucceeded (replies (adds (modulesGiven (take (s .added) ms))) b)
-unfolding runWrite
-stays b ms s e =
-    let q : modulesAdded b ms .0 ≡ s = cc in
-    let h = subst (λ (r : ModulesAdded). OneByOne b ms r (modulesAdded b ms .1)) q (one-by-one b ms) in
-    (h .bytes ∙ after-adds b (take (s .added) ms), all-succeeded b ms (s .added) (h .within) (h .accepted))
+pub stays : (b : List ℕ) (ms : List ModuleRecord)
+    → (modulesAdded b ms .1 ≡ after (adds (modulesGiven (take (modulesAdded b ms .0 .added) ms))) b)
+    × AllSucceeded (replies (adds (modulesGiven (take (modulesAdded b ms .0 .added) ms))) b)
+stays b ms =
+    let n = modulesAdded b ms .0 .added in
+    let h = one-by-one b ms in
+    (h .bytes ∙ after-adds b (take n ms), all-succeeded b ms n (h .within) (h .accepted))
 
 -- ---- of a buffer that holds a context
 -- a single add that is accepted answers a used length

@@ -4,24 +4,22 @@ use mathlib.Core.Path.{_≡_, refl, sym, ap, ap₂, _∙_}
 use mathlib.Core.Bool.{Bool, true, false, _&&_}
 use mathlib.Core.List.{List, []}
 use native.Mathlib.Omega.{arith}
-use native.Mathlib.Numerals.{add-one}
 use lib.ListN.{length, take}
 use lib.Seq.{getD-take}
 use lib.Dec.{leb, ltb, eqb}
-use borrow.Author.Tests.{leb-true, leb-false, ltb-true, ltb-false, eqb-true, le-leb}
+use borrow.Author.Tests.{leb-true, leb-false, ltb-true, ltb-false, eqb-true}
 use Rattle.words.specs.Words.{numberAt, u32At, numbersIn}
 use Rattle.key_value_text.specs.Lines.{Line, linesBytes}
 use Rattle.byte_layout.specs.Stored.{bytesAt}
 use Rattle.refusals.specs.Refusals.{MISSING}
-use Rattle.refusals.specs.Answers.{refused, orRefused}
-use Rattle.ultra_format.specs.Contexts.{Body, Context, count, used, total}
+use Rattle.refusals.specs.Answers.{refused}
+use Rattle.ultra_format.specs.Contexts.{Context, count, used, total}
 use Rattle.ultra_format.specs.Layouts.{roomOf, written}
 use Rattle.ultra_format.specs.Rules.{Meets}
 use Rattle.ultra_format.specs.Decoding.{pick, start, storedCount}
-use Rattle.ultra_format.specs.Plain.{writtenSize}
-use Rattle.ultra_format.specs.Additions.{Addition, bodyGiven, formed, sizeGiven}
+use Rattle.ultra_format.specs.Additions.{Addition, bodyGiven, formed}
 use Rattle.refusals.specs.declared.Answer.{Answer}
-use Rattle.refusals.specs.declared.Answer.the-variants.{Done, Refused}
+use Rattle.refusals.specs.declared.Answer.the-variants.{Refused}
 use Rattle.refusals.proofs.Chains.{both-hold}
 use Rattle.ultra_format.proofs.Decoded.{starts, decoded-only}
 use Rattle.ultra_format.specs.declared.records.ModuleRecord.{ModuleRecord}
@@ -46,7 +44,6 @@ use Rattle.ultra_questions.specs.CommandLineQuestion.{commandLinePart}
 use Rattle.listing_format.specs.Listing.{contextLines, refusedLines, linesOf, textListed, listed}
 use Rattle.ultra_question_statements.proofs.ByContext.{questions-by-context}
 use Rattle.ultra_question_statements.proofs.QuestionRefusals.{refusals-pass-on}
-use Rattle.ultra_adding.specs.Adding.{addedAt}
 use Rattle.demand_3.specs.Demand3.{ReadingIs}
 use Rattle.demand_3.proofs.Demand3.{demand-3}
 use Rattle.demand_2.specs.Calls.{membersFormed, membersBody, Write.begin, Write.add, Write.addMembers, Write.addModules}
@@ -57,7 +54,7 @@ use Rattle.demand_2.specs.Calls.{Reply.answer, Reply.several, Reply.read
 use Rattle.demand_2.specs.CallsFromC.{replyCrossed, AnyCall, inRattle, runAny}
 use Rattle.demand_2.specs.CallsFromC.{AnyCall.fromRattle, AnyCall.fromC}
 use Rattle.demand_2.specs.Arguments.{ModulesTyped}
-use Rattle.demand_2.specs.Model.{contextGiven, membersRefusal, refusalOf, giving, addAnswer, tooFew, stepWithin, stepIn, partIn, repliesIn, replyTo, anyReply, attributesGiven}
+use Rattle.demand_2.specs.Model.{contextGiven, membersRefusal, refusalOf, giving, tooFew, stepWithin, stepIn, partIn, repliesIn, replyTo, anyReply, attributesGiven}
 use Rattle.demand_2.specs.Demand2.{Follows, Undetermined}
 use Rattle.demand_2.proofs.Following.{Keeps, says-given, begun-is, long, added-is, add-reply, modules-follow, crosses}
 use Rattle.demand_2.proofs.GivenMembers.{members-size}

@@ -1,10 +1,10 @@
 -- Several modules after a platform and a kernel, from the demand: what is answered where all fit, one does not, and one is refused, and what
 -- then reads back. The model's list and answers are found by computation.
-use Prim.Native.Nat.{ℕ, _≤_, _<_, _^_}
+use Prim.Native.Nat.{ℕ, zero, suc, _≤_, _<_, _^_}
 use mathlib.Core.Path.{_≡_, refl, ap, _∙_, subst}
 use mathlib.Core.List.{List, [], _∷_, _++_}
 use native.Mathlib.Omega.{arith}
-use lib.ListN.{length, take}
+use lib.ListN.{length, take, replicate}
 use Rattle.refusals.specs.Refusals.{VALUE, ROOM}
 use Rattle.refusals.specs.Answers.{refused}
 use Rattle.refusals.specs.declared.Answer.the-variants.{Done}
@@ -17,17 +17,15 @@ use Rattle.ultra_format.specs.Records.{trimmed}
 use Rattle.ultra_format.specs.Examples.{zeros}
 use Rattle.ultra_format.specs.Additions.{Addition, Addition.addModule, entriesGiven, bodyGiven, givenCheck}
 use Rattle.ultra_format.specs.declared.records.ModuleRecord.{ModuleRecord}
-use Rattle.ultra_acceptance.specs.Acceptance.{HoldsContext}
-use Rattle.ultra_acceptance.proofs.Acceptance.{rehoused}
 use Rattle.ultra_appending.specs.Appending.{appendCheck}
 use Rattle.ultra_building.specs.Building.{begun}
-use Rattle.ultra_modules.specs.Modules.{soFar, inTurn, modulesAdded}
+use Rattle.ultra_modules.specs.Modules.{answerAndCount, inTurn, modulesAdded}
 use Rattle.ultra_modules.specs.declared.ModulesAdded.{ModulesAdded}
 use Rattle.demand_2.specs.Calls.{Write.addModules, Call.write, Reply.several, runWrite}
-use Rattle.demand_2.specs.CallsFromC.{AnyCall, inRattle, runAny}
+use Rattle.demand_2.specs.CallsFromC.{AnyCall, inRattle, runAny, after}
 use Rattle.demand_2.specs.Arguments.{ModuleTyped, ModulesTyped, AllTyped}
 use Rattle.demand_2.specs.Model.{attributesGiven, contextGiven, typesAfter, modulesListed, listAfterAll, replyTo, anyReply}
-use Rattle.demand_2.specs.Demand2.{Undetermined, ReadsBack, adds, withModules, bufferNow, listNow}
+use Rattle.demand_2.specs.Demand2.{Undetermined, ReadsBack, adds, modulesGiven, bufferNow, listNow}
 use Rattle.demand_2.specs.Witness.{sixAdditions, two, aModule, threeModules, fourModules, addingModules, SeveralModules}
 use Rattle.demand_2.proofs.EveryCall.{some-bytes, joined}
 use Rattle.demand_2.proofs.Demand2.{demand-2}
@@ -50,7 +48,7 @@ withTwo = two ++ (addModule (aModule 1) ∷ addModule (aModule 2) ∷ [])
 abbrev Listed : ℕ → List ModuleRecord → ModulesAdded → Type 0
 Listed room ms r = (listAfterAll room (adds two) [] ≡ two) × (modulesListed room two ms .0 ≡ r)
 
-listed : Listed 720 threeModules (soFar (Done 720) 3) × Listed 719 threeModules (soFar (refused ROOM 624) 2) × Listed 720 fourModules (soFar (refused VALUE 624) 2)
+listed : Listed 720 threeModules (answerAndCount (Done 720) 3) × Listed 719 threeModules (answerAndCount (refused ROOM 624) 2) × Listed 720 fourModules (answerAndCount (refused VALUE 624) 2)
 unfolding listAfterAll adds modulesListed inTurn attributesGiven typesAfter appendCheck placeCheck placed occurs bodyGiven entriesGiven trimmed writtenSize givenCheck bodyCheck sizeSuits values kernelValues moduleValues texts asciiText pathText every ranges ordered total
 listed = ((refl, refl), (refl, refl), (refl, refl))
 
@@ -94,7 +92,15 @@ module _ (w : AllTyped (adds sixAdditions)) (b : List ℕ) (room : ℕ) (e : roo
       let q : listNow b calls ≡ withTwo = ap (λ (n : ℕ). listAfterAll n calls []) e ∙ l in
       subst (ReadsBack (bufferNow b calls)) q (demand-2 .readsBack b calls begins typed-calls (rw q (omega arith)))
 
-no-modules : (b : List ℕ) → runAny (addingModules []) b ≡ (several (soFar (Done 0) 0), b)
+unchanged : (b : List ℕ) (ms : List ModuleRecord) → modulesAdded b ms .0 .added ≡ 0 → runAny (addingModules ms) b .1 ≡ b
+unfolding modulesGiven adds after runWrite
+unchanged b ms z = demand-2 .stays b ms .0 ∙ ap (λ (n : ℕ). after (adds (modulesGiven (take n ms))) b) z
+
+typed-any : (n : ℕ) → ModulesTyped (replicate n (aModule 1))
+typed-any zero = tt
+typed-any (suc n) = (typed-module 1 (omega arith), typed-any n)
+
+no-modules : (b : List ℕ) → runAny (addingModules []) b ≡ (several (answerAndCount (Done 0) 0), b)
 unfolding runWrite modulesAdded inTurn
 no-modules b = refl
 
@@ -105,6 +111,7 @@ several-modules w =
       noRoom = λ b e. answered w b 719 (omega arith) (omega arith) threeModules _ typed-three (listed .1);
       third = λ b e. answered w b 720 (omega arith) (omega arith) fourModules _ typed-four (listed .2);
       back = λ b e. read-back w b 720 (omega arith) (omega arith) listed-back;
+      unchanged = unchanged;
       none = no-modules;
-      appended = λ b c h. demand-2 .appendsModules b c fourModules (rehoused (h .0) (omega arith) (h .0 .within), h .1) typed-four;
+      appended = λ b c n h. demand-2 .appendsModules b c (replicate n (aModule 1)) h (typed-any n);
     }

@@ -6,7 +6,7 @@
 -- document 01 (Examples, Witness).
 -- What the calls do to a buffer is `run` (Calls) and, from C, `runFromC` (CallsFromC); what they do to a list and answer by it is
 -- `listAfter` and `replyTo` (Model). Proved in proofs/Demand2.antt: `demand-2`.
--- Request R-1 of document 02 has a call of its own join, several modules, and amends demand 1 for it (`stays`).
+-- Request R-1 of document 02 adds a call, several modules in one, and amends demand 1 for it (`stays`).
 -- What is assumed: nobody else writes the buffer, so that a call finds what the call before left (`after`); it is lent for nothing but
 -- its context, so that no text, map or output that a call is given beside it is a part of it (they are lists of their own); and
 -- arguments of adds are of their types (`AllTyped`, Arguments).
@@ -40,11 +40,10 @@ use Rattle.words.specs.Words.{numbersAt}
 use Rattle.ultra_adding.specs.Adding.{added}
 use Rattle.ultra_building.specs.Building.{begun}
 use Rattle.ultra_format.specs.declared.records.ModuleRecord.{ModuleRecord}
-use Rattle.ultra_modules.specs.declared.ModulesAdded.{ModulesAdded}
 use Rattle.ultra_modules.specs.Modules.{modulesAdded}
 use Rattle.demand_3.specs.Demand3.{partAt}
 use Rattle.demand_2.specs.Calls.{Members, membersBody, Write.begin, Write.add, Write.addMembers, Write.addModules, Question.step}
-use Rattle.demand_2.specs.Calls.{Call, Call.write, Call.ask, Reply, Reply.answer, Reply.several, runWrite, run}
+use Rattle.demand_2.specs.Calls.{Call, Call.write, Call.ask, Reply, Reply.answer, runWrite, run}
 use Rattle.demand_2.specs.CallsFromC.{CallFromC, runFromC, asked, replyCrossed, AnyCall, inRattle, runAny, after, replies}
 use Rattle.demand_2.specs.CallsFromC.{AnyCall.fromRattle}
 use Rattle.demand_2.specs.Arguments.{AdditionTyped, MembersTyped, ModulesTyped, AllTyped}
@@ -136,7 +135,7 @@ unfoldable pub modulesGiven : List ModuleRecord → List Addition
 modulesGiven [] = []
 modulesGiven (m ∷ ms) = addModule m ∷ modulesGiven ms
 
--- the context with modules more
+-- the context with modules added at its end
 abbrev pub withModules : Context → List ModuleRecord → Context
 withModules c ms = record { major = c .major; minor = c .minor; attributes = c .attributes ++ attributesGiven (modulesGiven ms) }
 
@@ -162,7 +161,7 @@ pub record Demand2 : Type 0 where
   pub begins : (b : List ℕ) → 8 ≤ length b → (begun b .0 ≡ Done 8) × ((i : ℕ) → 8 ≤ i → getD (begun b .1) i 0 ≡ getD b i 0)
   pub beginsNot : (b : List ℕ) → length b < 8 → begun b ≡ (refused SHORT 0, b)
   -- "over any sequence of calls": after every call the buffer is as the list says. A beginning empties the list, an add that is not
-  -- refused appends to it, any other call leaves it (listAfter)
+  -- refused appends to it, several modules append those that are added, any other call leaves it (listAfter)
   pub follows : (b : List ℕ) (ks : List AnyCall) → begun b .0 ≡ Done 8 → AllTyped ks → Follows (bufferNow b ks) (listNow b ks)
   pub sameLength : (b : List ℕ) (ks : List AnyCall) → begun b .0 ≡ Done 8 → AllTyped ks → length (bufferNow b ks) ≡ length b
   -- and every answer is the one that the list determines; of several modules where they are of their types, since a later one is answered
@@ -184,14 +183,14 @@ pub record Demand2 : Type 0 where
   pub refusals : (b : List ℕ) (k : Call) (a : Answer) → run k b .0 ≡ answer a → (numberOf a ≡ 0 → ⊥) → run k b .1 ≡ b
   -- R-1: "What went before the refused module stays": whatever is answered of several modules, the buffer is as single adds of those that
   -- were added leave it, and each of these succeeds. With none added that is the buffer as it was. "this amends demand 1 .. for this call
-  -- only": every other call that writes is one of `refusals`.
-  pub stays : (b : List ℕ) (ms : List ModuleRecord) (s : ModulesAdded) → run (write (addModules ms)) b .0 ≡ several s
-      → (run (write (addModules ms)) b .1 ≡ after (adds (modulesGiven (take (s .added) ms))) b)
-      × AllSucceeded (replies (adds (modulesGiven (take (s .added) ms))) b)
+  -- only": every other call that writes is one of `refusals`. (OneByOne, of crate ultra_modules, by the calls of a sequence.)
+  pub stays : (b : List ℕ) (ms : List ModuleRecord)
+      → (modulesAdded b ms .1 ≡ after (adds (modulesGiven (take (modulesAdded b ms .0 .added) ms))) b)
+      × AllSucceeded (replies (adds (modulesGiven (take (modulesAdded b ms .0 .added) ms))) b)
   -- beyond the order: adding to any buffer that holds a context, also one that another writer began, appends exactly the attribute given
   pub appends : (b : List ℕ) (c : Context) (g : Addition) (n : ℕ) → HoldsContext 0 b c → AdditionTyped g → added b g .0 ≡ Done n
       → Appended b c g (added b g .1) n
-  -- several modules alike: the context has those more that were added
+  -- likewise several modules: the context then has those that were added
   pub appendsModules : (b : List ℕ) (c : Context) (ms : List ModuleRecord) → HoldsContext 0 b c → ModulesTyped ms
       → HoldsContext 0 (modulesAdded b ms .1) (withModules c (take (modulesAdded b ms .0 .added) ms))
   -- "With two or more, it reads back as the records given"

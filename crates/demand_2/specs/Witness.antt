@@ -10,7 +10,7 @@ use mathlib.Core.Bool.{true, false}
 use mathlib.Core.Path.{_≡_}
 use mathlib.Core.List.{List, [], _∷_, _++_}
 use lib.ListN.{length, take, getD, replicate}
-use Rattle.refusals.specs.Refusals.{SHORT, VALUE, ROOM}
+use Rattle.refusals.specs.Refusals.{SHORT, FORM, VALUE, ROOM}
 use Rattle.refusals.specs.Answers.{refused, numberOf}
 use Rattle.ultra_format.specs.Decoding.{contextOf}
 use Rattle.ultra_format.specs.Contexts.{Context}
@@ -27,7 +27,7 @@ use Rattle.ultra_format.specs.declared.records.OptionalU8.the-variants as narro
 use Rattle.ultra_stepping.specs.Stepping.{cursorAt}
 use Rattle.ultra_building.specs.Building.{begun}
 use Rattle.ultra_adding.specs.Adding.{added}
-use Rattle.ultra_modules.specs.Modules.{soFar, modulesAdded}
+use Rattle.ultra_modules.specs.Modules.{answerAndCount, modulesAdded}
 use Rattle.ultra_acceptance.specs.Acceptance.{HoldsContext}
 use Rattle.demand_3.specs.Witness.{everyPlatformRecord, everyKernelRecord, everyModuleRecord, everyFramebufferRecord, everyEntries, everyLine}
 use Rattle.ultra_acceptance.specs.Steps.{StepsThrough}
@@ -85,8 +85,8 @@ sixAdditions =
     ∷ []
 
 -- ---- calls of every kind
--- after a first beginning: two attributes and two modules, a beginning that empties the list, the six types in turn, no module; adds that
--- are refused
+-- after a first beginning: two attributes and two modules, a beginning that empties the list, the six types in turn, an empty list of modules;
+-- adds that are refused
 abbrev pub everyWrite : List AnyCall
 everyWrite =
     fromRattle (write (add (addPlatform (everyPlatformRecord .platform))))
@@ -234,6 +234,8 @@ pub record AnyArguments : Type 0 where
       → AllTyped (fromRattle (write (add (addCommandLine t))) ∷ fromC (writeFromC (ultraAddMap t)) ∷ [])
   pub noMap : AllTyped (fromRattle (write (add (addMap []))) ∷ [])
   pub noModules : AllTyped (fromRattle (write (addModules [])) ∷ [])
+  pub moreModules : (ms ns : List ModuleRecord) → AllTyped (fromRattle (write (addModules ms)) ∷ fromRattle (write (addModules ns)) ∷ [])
+      → AllTyped (fromRattle (write (addModules (ms ++ ns))) ∷ [])
   pub noMembers : AllTyped (fromRattle (write (add (addPlatform absentPlatform))) ∷ [])
   pub joined : (ks js : List AnyCall) → AllTyped ks → AllTyped js → AllTyped (ks ++ js)
   pub reading : (k : AnyCall) → ((g : Addition) → inRattle k ≡ write (add g) → ⊥) → ((m : Members) → inRattle k ≡ write (addMembers m) → ⊥)
@@ -252,6 +254,16 @@ pub record TwoAreEnough : Type 0 where
   pub back : (b : List ℕ) → length b ≡ 432 → ReadsBack (bufferNow b (adds two)) two
   pub through : (b : List ℕ) → length b ≡ 432 → StepsThrough (bufferNow b (adds two)) (contextGiven two)
 
+-- what is answered of calls that write, other than several modules: of them nothing is asked
+pub record WritesAnswered : Type 0 where
+  pub begun : (b : List ℕ) → length b ≡ 104 → runAny (fromRattle (write begin)) (bufferNow b (adds one)) .0 ≡ answer (Done 8)
+  pub added : (b : List ℕ) → length b ≡ 96
+      → runAny (fromRattle (write (add (addPlatform (everyPlatformRecord .platform))))) (bufferNow b []) .0 ≡ answer (Done 96)
+  pub noRoom : (b : List ℕ) → length b ≡ 95
+      → runAny (fromRattle (write (add (addPlatform (everyPlatformRecord .platform))))) (bufferNow b []) .0 ≡ answer (refused ROOM 8)
+  pub members : (b : List ℕ) → length b ≡ 96
+      → runAny (fromRattle (write (addMembers (platformMembers false 2 0 0 [] 0 0 0 0 0)))) (bufferNow b []) .0 ≡ answer (refused FORM 8)
+
 -- ---- several modules
 -- a module of a type, which is refused as 13 if it is not 1 or 2
 abbrev pub aModule : ℕ → ModuleRecord
@@ -269,20 +281,22 @@ addingModules ms = fromRattle (write (addModules ms))
 
 -- after a platform and a kernel, which use 432 bytes; a module has 96
 pub record SeveralModules : Type 0 where
-  pub all : (b : List ℕ) → length b ≡ 720 → runAny (addingModules threeModules) (bufferNow b (adds two)) .0 ≡ several (soFar (Done 720) 3)
+  pub all : (b : List ℕ) → length b ≡ 720 → runAny (addingModules threeModules) (bufferNow b (adds two)) .0 ≡ several (answerAndCount (Done 720) 3)
   -- in a byte less, and with a refused module, two are added; the offset counts them
   pub noRoom : (b : List ℕ) → length b ≡ 719
-      → runAny (addingModules threeModules) (bufferNow b (adds two)) .0 ≡ several (soFar (refused ROOM 624) 2)
+      → runAny (addingModules threeModules) (bufferNow b (adds two)) .0 ≡ several (answerAndCount (refused ROOM 624) 2)
   pub third : (b : List ℕ) → length b ≡ 720
-      → runAny (addingModules fourModules) (bufferNow b (adds two)) .0 ≡ several (soFar (refused VALUE 624) 2)
+      → runAny (addingModules fourModules) (bufferNow b (adds two)) .0 ≡ several (answerAndCount (refused VALUE 624) 2)
   -- they are in the list, and read back
   pub back : (b : List ℕ) → length b ≡ 720
       → ReadsBack (bufferNow b (adds two ++ (addingModules fourModules ∷ []))) (two ++ (addModule (aModule 1) ∷ addModule (aModule 2) ∷ []))
+  -- where none is added, any buffer is as it was
+  pub unchanged : (b : List ℕ) (ms : List ModuleRecord) → modulesAdded b ms .0 .added ≡ 0 → runAny (addingModules ms) b .1 ≡ b
   -- with no modules, on any buffer
-  pub none : (b : List ℕ) → runAny (addingModules []) b ≡ (several (soFar (Done 0) 0), b)
-  -- in any buffer that holds a context
-  pub appended : (b : List ℕ) (c : Context) → HoldsContext 2 b c
-      → HoldsContext 0 (modulesAdded b fourModules .1) (withModules c (take (modulesAdded b fourModules .0 .added) fourModules))
+  pub none : (b : List ℕ) → runAny (addingModules []) b ≡ (several (answerAndCount (Done 0) 0), b)
+  -- in any buffer that holds a context, and of any number of modules
+  pub appended : (b : List ℕ) (c : Context) (n : ℕ) → HoldsContext 0 b c → let ms = replicate n (aModule 1) in
+      HoldsContext 0 (modulesAdded b ms .1) (withModules c (take (modulesAdded b ms .0 .added) ms))
 
 -- a call from C that is refused changes nothing, in any buffer; and an add of members that changes a buffer is the add of a record
 pub record FromCAndMembers : Type 0 where
@@ -304,6 +318,7 @@ pub record Witnessed : Type 0 where
   pub others : FromCAndMembers
   pub arguments : AnyArguments
   pub enough : TwoAreEnough
+  pub writes : WritesAnswered
   pub modules : SeveralModules
   -- whatever was built is plain
   pub plain : (b : List ℕ) (ks : List AnyCall) → begun b .0 ≡ Done 8 → AllTyped ks → Plain (bufferNow b ks) (contextGiven (listNow b ks))

@@ -9,7 +9,7 @@ use prog.Wp.{Heap}
 use ghost.Atoms.{Atoms, sem}
 use types.Kit.{Given, ‵, _⊛_, _$_, _∵_, !, qed, move, drop as leave, use1, use2, split, fsplit, fjoin, frame, done}
 use denote.RattleType.{RattleType}
-use denote.Memory.{mem, shares}
+use denote.Memory.{mem}
 use denote.Index.{place, row}
 use denote.Steps.{nothing}
 

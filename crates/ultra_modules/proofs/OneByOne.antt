@@ -3,6 +3,7 @@
 use Prim.Native.Nat.{ℕ, zero, suc, _+_, _≤_, _<_}
 use mathlib.Core.Path.{_≡_, refl, sym, ap, _∙_, subst}
 use mathlib.Core.Bool.{Bool, true, false}
+use mathlib.Core.Logic.{_⊎_, _⊎_.inl, _⊎_.inr}
 use mathlib.Core.List.{List, [], _∷_}
 use native.Mathlib.Nat.{not-suc-le-zero, le-of-suc-le-suc}
 use native.Mathlib.Omega.{arith}
@@ -25,8 +26,9 @@ use Rattle.ultra_appending.specs.Appending.{appendCheck, appendOffsetIn, append
 use Rattle.ultra_adding.specs.Adding.{addedAt, addedMembers}
 use Rattle.ultra_building.proofs.AddingRefusals.{adding-refuses, refused-add-keeps}
 use Rattle.ultra_modules.specs.declared.ModulesAdded.{ModulesAdded}
-use Rattle.ultra_modules.specs.Modules.{soFar, moduleAt, ifDone, inTurn, moduleAdded, modulesAdded}
-use Rattle.ultra_modules.specs.OneByOne.{afterAdds, singleAdd, Accepted, OneByOne, OneByOneExactly, ModulesRefuse}
+use Rattle.ultra_modules.specs.Modules.{answerAndCount, moduleAt, ifDone, inTurn, moduleAdded, modulesAdded}
+use Rattle.ultra_modules.specs.OneByOne.{afterAdds, singleAdd, Accepted, OneByOne, OneByOneExactly, NextRefused, ModulesRefuse, EveryList}
+use Rattle.ultra_modules.proofs.StoredBytes.{after-bytes}
 
 -- ---- an add that is refused
 clash : {P : Type 0} {v : ℕ} {r : Refusal} → Done v ≡ Refused r → P
@@ -122,7 +124,7 @@ turned a k b (m ∷ ms) = go (moduleAdded b m .0) refl (λ (x : Answer). turned 
   where
     go : (x : Answer) → moduleAdded b m .0 ≡ x
         → ((y : Answer) → Turned y (k + 1) (moduleAdded b m .1) ms (inTurn moduleAdded y (k + 1) (moduleAdded b m .1) ms))
-        → Turned a k b (m ∷ ms) (ifDone x (inTurn moduleAdded x (k + 1) (moduleAdded b m .1) ms) (soFar x k, moduleAdded b m .1))
+        → Turned a k b (m ∷ ms) (ifDone x (inTurn moduleAdded x (k + 1) (moduleAdded b m .1) ms) (answerAndCount x k, moduleAdded b m .1))
     go (Done v) e rest = let h = rest (Done v) in (suc (h .0), omega (arith, h .1), adds-done a b m ms (h .0) v _ _ e (h .2))
     go (Refused r) e rest = (0, omega arith, adds-refused a b m ms r e)
 
@@ -163,7 +165,7 @@ module _ (b : List ℕ) (ms : List ModuleRecord) (r s : ModulesAdded) (d e : Lis
       let p = same-answer in
       let q = same-count in
       let z : d ≡ e = h .bytes ∙ ap (λ (n : ℕ). afterAdds b (take n ms)) q ∙ sym (k .bytes) in
-      λ i. (soFar (p i) (q i), z i)
+      λ i. (answerAndCount (p i) (q i), z i)
 
 pub one-by-one-exactly : OneByOneExactly
 one-by-one-exactly b ms r d = (
@@ -177,7 +179,7 @@ module _ (b : List ℕ) (ms : List ModuleRecord) (n : ℕ) (r : Refusal) where
   met = afterAdds b (take n ms)
 
   -- not all were added
-  more-left : (d : List ℕ) → OneByOne b ms (soFar (Refused r) n) d → n < length ms
+  more-left : (d : List ℕ) → OneByOne b ms (answerAndCount (Refused r) n) d → n < length ms
   more-left d h = go (length ms) refl (ltb n (length ms)) refl
     where
       go : (k : ℕ) → length ms ≡ k → (t : Bool) → ltb n (length ms) ≡ t → n < length ms
@@ -187,10 +189,10 @@ module _ (b : List ℕ) (ms : List ModuleRecord) (n : ℕ) (r : Refusal) where
           let p : n ≡ suc k = omega (arith, ltb-false n (length ms) u, h .within) in
           absurd (module-number (afterAdds b (take k ms)) (moduleAt ms k) r (sym (h .last k l p)) (h .accepted k (omega arith)))
 
-  told : (d : List ℕ) → OneByOne b ms (soFar (Refused r) n) d → addedMembers met true (bodyGiven (addModule (moduleAt ms n))) .0 ≡ Refused r
+  told : (d : List ℕ) → OneByOne b ms (answerAndCount (Refused r) n) d → addedMembers met true (bodyGiven (addModule (moduleAt ms n))) .0 ≡ Refused r
   told d h = ap (λ (x : Answer × List ℕ). x .0) (h .refused (more-left d h) .1)
 
-  from-single : n < length ms → ((i : ℕ) → i < n → Accepted (singleAdd b ms i)) → singleAdd b ms n .0 ≡ Refused r → OneByOne b ms (soFar (Refused r) n) met
+  from-single : n < length ms → ((i : ℕ) → i < n → Accepted (singleAdd b ms i)) → singleAdd b ms n .0 ≡ Refused r → OneByOne b ms (answerAndCount (Refused r) n) met
   from-single l each e =
       record {
         within = omega arith;
@@ -203,11 +205,38 @@ module _ (b : List ℕ) (ms : List ModuleRecord) (n : ℕ) (r : Refusal) where
 
 pub modules-refuse : ModulesRefuse
 modules-refuse b ms n r y =
-    let given = bodyGiven (addModule (moduleAt ms n)) in (
+    let given = bodyGiven (addModule (moduleAt ms n)) in
+    let z = after-bytes b (take n ms) y in (
       λ e.
           let h = subst (λ (s : ModulesAdded). OneByOne b ms s (modulesAdded b ms .1)) e (one-by-one b ms) in
-          (more-left b ms n r _ h, h .accepted, adding-refuses (met b ms n r) true given r y .0 (told b ms n r _ h)),
+          (more-left b ms n r _ h, h .accepted, adding-refuses (met b ms n r) true given r z .0 (told b ms n r _ h)),
       λ h.
-          let o = from-single b ms n r (h .0) (h .1) (adding-refuses (met b ms n r) true given r y .1 (h .2)) in
-          sym (ap (λ (p : ModulesAdded × List ℕ). p .0) (one-by-one-exactly b ms (soFar (Refused r) n) (met b ms n r) .1 o)),
+          let o = from-single b ms n r (h .0) (h .1) (adding-refuses (met b ms n r) true given r z .1 (h .2)) in
+          sym (ap (λ (p : ModulesAdded × List ℕ). p .0) (one-by-one-exactly b ms (answerAndCount (Refused r) n) (met b ms n r) .1 o)),
     )
+
+-- ---- one or the other
+-- where the answer is a success, all were added
+all-added : (b : List ℕ) (ms : List ModuleRecord) (r : ModulesAdded) (d : List ℕ) (v : ℕ) → OneByOne b ms r d → r .answer ≡ Done v → r .added ≡ length ms
+all-added b ms r d v h e = go (ltb (r .added) (length ms)) refl
+  where
+    go : (t : Bool) → ltb (r .added) (length ms) ≡ t → r .added ≡ length ms
+    go true u =
+        let p = h .refused (ltb-true (r .added) (length ms) u) in
+        absurd (p .0 (ap (λ (x : Answer × List ℕ). numberOf (x .0)) (p .1) ∙ ap numberOf e))
+    go false u = omega (arith, ltb-false (r .added) (length ms) u, h .within)
+
+pub every-list : EveryList
+every-list b ms y = go (modulesAdded b ms .0 .answer) refl
+  where
+    r : ModulesAdded
+    r = modulesAdded b ms .0
+
+    go : (a : Answer) → r .answer ≡ a
+        → ((used : ℕ) × (r ≡ answerAndCount (Done used) (length ms)))
+        ⊎ ((n : ℕ) × (w : Refusal) × (r ≡ answerAndCount (Refused w) n) × (n < length ms) × NextRefused b ms n w)
+    go (Done v) e = inl (v, λ i. answerAndCount (e i) (all-added b ms r (modulesAdded b ms .1) v (one-by-one b ms) e i))
+    go (Refused w) e =
+        let q : r ≡ answerAndCount (Refused w) (r .added) = λ i. answerAndCount (e i) (r .added) in
+        let k = modules-refuse b ms (r .added) w y .0 q in
+        inr (r .added, w, q, k .0, k .2)

@@ -16,7 +16,7 @@ use Rattle.refusals.specs.declared.Answer.{Answer}
 use Rattle.refusals.specs.declared.Answer.the-variants.{Done, Refused}
 use Rattle.ultra_format.specs.declared.records.ModuleRecord.{ModuleRecord}
 use Rattle.ultra_modules.specs.declared.ModulesAdded.{ModulesAdded}
-use Rattle.ultra_modules.specs.Modules.{soFar, moduleAt, ifDone, inTurn, moduleAdded, modulesAdded}
+use Rattle.ultra_modules.specs.Modules.{answerAndCount, moduleAt, ifDone, inTurn, moduleAdded, modulesAdded}
 use Rattle.ultra_modules.specs.Turns.{noneYet, goesOn, counting, nextAdded}
 
 pub drop-at : {X : Type 0} (xs : List X) (i : ℕ) (d : X) → i < length xs → drop i xs ≡ getD xs i d ∷ drop (suc i) xs
@@ -43,19 +43,19 @@ unfolding modulesAdded
 starts-is ms b = refl
 
 counted : (ms : List ModuleRecord) (b : List ℕ) (a : Answer) (i : ℕ)
-    → leftFrom ms b (counting a i) ≡ ifDone a (inTurn moduleAdded a (i + 1) b (drop (suc i) ms)) (soFar a i, b)
+    → leftFrom ms b (counting a i) ≡ ifDone a (inTurn moduleAdded a (i + 1) b (drop (suc i) ms)) (answerAndCount a i, b)
 counted ms b (Done used) i = ap (λ (k : ℕ). inTurn moduleAdded (Done used) (i + 1) b (drop k ms)) (add-one i)
 counted ms b (Refused r) i = refl
 
-next-at : (ms : List ModuleRecord) (b : List ℕ) (a : Answer) (i : ℕ) → T (goesOn (soFar a i) (length ms))
-    → leftFrom ms (moduleAdded b (moduleAt ms i) .1) (counting (moduleAdded b (moduleAt ms i) .0) i) ≡ leftFrom ms b (soFar a i)
+next-at : (ms : List ModuleRecord) (b : List ℕ) (a : Answer) (i : ℕ) → T (goesOn (answerAndCount a i) (length ms))
+    → leftFrom ms (moduleAdded b (moduleAt ms i) .1) (counting (moduleAdded b (moduleAt ms i) .0) i) ≡ leftFrom ms b (answerAndCount a i)
 unfolding inTurn
 next-at ms b (Done used) i h =
     let r = moduleAdded b (moduleAt ms i) in
     counted ms (r .1) (r .0) i ∙ ap (inTurn moduleAdded (Done used) i b) (sym (drop-at ms i _ (ltb→lt i (length ms) h)))
 next-at ms b (Refused r) i h = absurd h
 
-done-at : (ms : List ModuleRecord) (b : List ℕ) (a : Answer) (i : ℕ) → T (not (goesOn (soFar a i) (length ms))) → leftFrom ms b (soFar a i) ≡ (soFar a i, b)
+done-at : (ms : List ModuleRecord) (b : List ℕ) (a : Answer) (i : ℕ) → T (not (goesOn (answerAndCount a i) (length ms))) → leftFrom ms b (answerAndCount a i) ≡ (answerAndCount a i, b)
 unfolding inTurn
 done-at ms b (Done used) i h = ap (inTurn moduleAdded (Done used) i b) (drop-of-length-le ms {i = i} (nltb→le i (length ms) h))
 done-at ms b (Refused r) i h = refl
@@ -71,7 +71,7 @@ next-is ms b s m r d h e f =
     ∙ next-at ms b (s .answer) (s .added) h
 
 -- ---- where the loop goes on, there is a module at the place
-in-at : (a : Answer) (i n : ℕ) → T (goesOn (soFar a i) n) → i < n
+in-at : (a : Answer) (i n : ℕ) → T (goesOn (answerAndCount a i) n) → i < n
 in-at (Done used) i n h = ltb→lt i n h
 in-at (Refused r) i n h = absurd h
 
@@ -82,7 +82,7 @@ in-range s n h = in-at (s .answer) (s .added) n h
 abbrev pub left : ℕ → ModulesAdded → ℕ
 left n s = ifDone (s .answer) (suc (n - s .added)) 0
 
-less-at : (a c : Answer) (i n : ℕ) → T (goesOn (soFar a i) n) → left n (counting c i) < left n (soFar a i)
+less-at : (a c : Answer) (i n : ℕ) → T (goesOn (answerAndCount a i) n) → left n (counting c i) < left n (answerAndCount a i)
 less-at (Done used) (Done more) i n h = let l : i < n = ltb→lt i n h in omega arith
 less-at (Done used) (Refused r) i n h = omega arith
 less-at (Refused r) c i n h = absurd h

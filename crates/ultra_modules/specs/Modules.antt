@@ -12,8 +12,8 @@ use Rattle.ultra_adding.specs.Adding.{added}
 use Rattle.ultra_modules.specs.declared.ModulesAdded.{ModulesAdded}
 
 -- "answers how many were added besides the refusal"
-abbrev pub soFar : Answer → ℕ → ModulesAdded
-soFar a n = record { answer = a; added = n }
+abbrev pub answerAndCount : Answer → ℕ → ModulesAdded
+answerAndCount a n = record { answer = a; added = n }
 
 -- the record at an index; past the list's end a blank one, which is never asked for
 abbrev pub moduleAt : List ModuleRecord → ℕ → ModuleRecord
@@ -27,8 +27,8 @@ ifDone (Refused r) more stop = stop
 -- "add them in order .. The call stops at the first refusal": what `add` makes of the modules that are left, where the one before answered a
 -- and n were added. What is added to is a buffer here, and a list in demand 2.
 unfoldable pub inTurn : {X : Type 0} → (X → ModuleRecord → Answer × X) → Answer → ℕ → X → List ModuleRecord → ModulesAdded × X
-inTurn add a n x [] = (soFar a n, x)
-inTurn add a n x (m ∷ ms) = let r = add x m in ifDone (r .0) (inTurn add (r .0) (n + 1) (r .1) ms) (soFar (r .0) n, r .1)
+inTurn add a n x [] = (answerAndCount a n, x)
+inTurn add a n x (m ∷ ms) = let r = add x m in ifDone (r .0) (inTurn add (r .0) (n + 1) (r .1) ms) (answerAndCount (r .0) n, r .1)
 
 -- "with the same bytes and answers as adding them one by one"
 abbrev pub moduleAdded : List ℕ → ModuleRecord → Answer × List ℕ

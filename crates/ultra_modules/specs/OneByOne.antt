@@ -2,14 +2,14 @@
 -- with the same bytes and answers as adding them one by one. The call stops at the first refusal and answers how many were added besides the
 -- refusal. With no modules it answers 0 with value 0 and doesn't look at the buffer. What went before the refused module stays .. Refusals:
 -- those of adding a module."
--- Proved in proofs/OneByOne.antt: `one-by-one-exactly`, and from it `modules-refuse`.
+-- Proved in proofs/OneByOne.antt: `one-by-one-exactly`, from it `modules-refuse`, and from the two `every-list`.
 -- A reader has to believe this file.
 use Prim.Native.Nat.{ℕ, zero, suc, _≤_, _<_}
 use mathlib.Core.Path.{_≡_}
 use mathlib.Core.Bool.{true}
-use mathlib.Core.Logic.{_↔_}
+use mathlib.Core.Logic.{_↔_, _⊎_}
 use mathlib.Core.List.{List, [], _∷_}
-use lib.ListN.{length, take}
+use lib.ListN.{length, getD, take}
 use Rattle.byte_layout.specs.Stored.{Bytes}
 use Rattle.refusals.specs.Answers.{numberOf, valueOf}
 use Rattle.refusals.specs.declared.Refusal.{Refusal}
@@ -19,7 +19,7 @@ use Rattle.ultra_format.specs.Additions.{Addition.addModule, bodyGiven}
 use Rattle.ultra_format.specs.declared.records.ModuleRecord.{ModuleRecord}
 use Rattle.ultra_building.specs.AddingRefusals.{AddRefused}
 use Rattle.ultra_modules.specs.declared.ModulesAdded.{ModulesAdded}
-use Rattle.ultra_modules.specs.Modules.{soFar, moduleAt, moduleAdded, modulesAdded}
+use Rattle.ultra_modules.specs.Modules.{answerAndCount, moduleAt, moduleAdded, modulesAdded}
 
 -- the buffer after single adds of the modules, one after the other, whatever each answers
 unfoldable pub afterAdds : List ℕ → List ModuleRecord → List ℕ
@@ -52,11 +52,23 @@ pub record OneByOne (b : List ℕ) (ms : List ModuleRecord) (r : ModulesAdded) (
 abbrev pub OneByOneExactly : Type 0
 OneByOneExactly = (b : List ℕ) (ms : List ModuleRecord) (r : ModulesAdded) (d : List ℕ) → ((r, d) ≡ modulesAdded b ms) ↔ OneByOne b ms r d
 
+-- the add of the module at an index is to be refused with r, after those before it were added
+abbrev pub NextRefused : List ℕ → List ModuleRecord → ℕ → Refusal → Type 0
+NextRefused b ms n r =
+    AddRefused (afterAdds b (take n ms)) true (bodyGiven (addModule (moduleAt ms n))) (numberOf (Refused r)) (valueOf (Refused r))
+
 -- "Refusals: those of adding a module": n are added and the next is refused exactly where the adds of the first n are accepted and the table
--- refuses the add of the next, by that number and value. Of the buffer that it meets, only that its elements are bytes is assumed.
+-- refuses the add of the next, by that number and value. Of the buffer only that its elements are bytes is assumed.
 abbrev pub ModulesRefuse : Type 0
 ModulesRefuse =
-    (b : List ℕ) (ms : List ModuleRecord) (n : ℕ) (r : Refusal) → Bytes (afterAdds b (take n ms))
-    → (modulesAdded b ms .0 ≡ soFar (Refused r) n)
-    ↔ ((n < length ms) × ((i : ℕ) → i < n → Accepted (singleAdd b ms i))
-    × AddRefused (afterAdds b (take n ms)) true (bodyGiven (addModule (moduleAt ms n))) (numberOf (Refused r)) (valueOf (Refused r)))
+    (b : List ℕ) (ms : List ModuleRecord) (n : ℕ) (r : Refusal) → Bytes b
+    → (modulesAdded b ms .0 ≡ answerAndCount (Refused r) n)
+    ↔ ((n < length ms) × ((i : ℕ) → i < n → Accepted (singleAdd b ms i)) × NextRefused b ms n r)
+
+-- from the two: of every buffer of bytes and every list, all are added or the table refuses one. A statement that asked for more would not
+-- give it.
+abbrev pub EveryList : Type 0
+EveryList =
+    (b : List ℕ) (ms : List ModuleRecord) → ((i : ℕ) → getD b i 0 < 256)
+    → ((used : ℕ) × (modulesAdded b ms .0 ≡ answerAndCount (Done used) (length ms)))
+    ⊎ ((n : ℕ) × (r : Refusal) × (modulesAdded b ms .0 ≡ answerAndCount (Refused r) n) × (n < length ms) × NextRefused b ms n r)

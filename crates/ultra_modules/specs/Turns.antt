@@ -8,11 +8,11 @@ use Rattle.refusals.specs.declared.Answer.{Answer}
 use Rattle.refusals.specs.declared.Answer.the-variants.{Done}
 use Rattle.ultra_format.specs.declared.records.ModuleRecord.{ModuleRecord}
 use Rattle.ultra_modules.specs.declared.ModulesAdded.{ModulesAdded}
-use Rattle.ultra_modules.specs.Modules.{soFar, ifDone, moduleAdded}
+use Rattle.ultra_modules.specs.Modules.{answerAndCount, ifDone, moduleAdded}
 
 -- before the first module
 abbrev pub noneYet : ModulesAdded
-noneYet = soFar (Done 0) 0
+noneYet = answerAndCount (Done 0) 0
 
 -- whether a module is left to add
 abbrev pub goesOn : ModulesAdded → ℕ → Bool
@@ -20,7 +20,7 @@ goesOn s n = ifDone (s .answer) (ltb (s .added) n) false
 
 -- a module that is added is counted
 abbrev pub counting : Answer → ℕ → ModulesAdded
-counting a n = ifDone a (soFar a (n + 1)) (soFar a n)
+counting a n = ifDone a (answerAndCount a (n + 1)) (answerAndCount a n)
 
 -- after one more module
 abbrev pub nextAdded : List ℕ → ModuleRecord → ModulesAdded → ModulesAdded × List ℕ
