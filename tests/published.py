@@ -16,7 +16,7 @@ Demand 2 runs a call that writes by the equation of `runWrite` (crates/demand_2/
 it, a question by that of `replyOf` for the case of `Question`, and a call toward C by that of `runWriteFromC` or `replyFromC` (CallsFromC.antt)
 for the case of `WriteFromC` or `QuestionFromC` with its name. `run` and `runFromC` are these, and leave the buffer of a question as it is.
 Every case stands for published calls, and one case for every published call but `Cursor::first`, which takes no buffer. Every exported function
-of crate ultra is published.
+of crate ultra is published, and so is every public function of a crate that a published call's path names, but for those of INNER.
 Exit status 1, with a line for each problem.
 """
 import collections
@@ -30,6 +30,8 @@ ADDITIONS = "crates/ultra_format/specs/Additions.antt"
 # The call that no case stands for: its term, and where the names in it come from.
 WITHOUT_BUFFER = {"Cursor::first": ("cursorAt 0 8", {"cursorAt": "Rattle.ultra_stepping.specs.Stepping.cursorAt"})}
 RELATIONS = {"≡": ("_≡_", "mathlib.Core.Path._≡_"), "PartOf": ("PartOf", "Rattle.ultra_questions.specs.Parts.PartOf")}
+# Public functions, of crates that publish calls, that only this repository calls.
+INNER = {"ultra_reading::next_place_check", "ultra_reading::room", "ultra_reading::used_length"}
 # What stands around the definition that the page names.
 AROUND = {"answerCrossed", "stepCrossed", "readingCrossed", "partCrossed", "crossed", "length"}
 # What the cases of each kind are run by.
@@ -493,6 +495,22 @@ def gathered_problems(stands, additions, members):
             yield f"{case.spec.file}: `{name}` stands for no call, expected one"
 
 
+def public_functions(root, crate):
+    """The path of each function, and of each module, that a crate makes public: its own, or one that it passes on."""
+    face = read(root / "crates" / crate / "src/lib.rt")
+    return [f"{crate}::{name}" for name in re.findall(r"^pub (?:use (?:\w+::)+|fn |mod )([a-z]\w*)(?=[;(])", face, re.M)]
+
+
+def unpublished_problems(root, paths):
+    """Public functions that no row publishes: demand 2, the driver and the comparison would not have them."""
+    crates = sorted({path.split("::")[0] for path in paths if path[0].islower() and "::" in path})
+    public = [path for crate in crates for path in public_functions(root, crate)]
+    for path in public:
+        if path not in INNER and not any(known == path or known.startswith(f"{path}::") for known in paths):
+            yield f"{path}: public, expected in {PAGE}, or in INNER of published.py"
+    yield from (f"{path}: in INNER of published.py, expected a public function" for path in sorted(INNER - set(public)) if path.split("::")[0] in crates)
+
+
 def all_problems(root, calls):
     spec, spec_from_c = spec_of(root, CALLS), spec_of(root, CALLS_FROM_C)
     stands = []
@@ -511,6 +529,7 @@ def all_problems(root, calls):
     yield from handing_problems(spec, spec_from_c)
     yield from gathered_problems(stands, cases(spec_of(root, ADDITIONS), "Addition"), cases(spec, "Members"))
     yield from (f"{name}, {file.relative_to(root)}: exported, expected in {PAGE}" for name, file in exported(root).items() if name not in paths)
+    yield from unpublished_problems(root, paths)
 
 
 def published(root):

@@ -7,6 +7,7 @@ import pathlib
 import sys
 import tempfile
 import unittest
+from unittest import mock
 
 sys.dont_write_bytecode = True
 
@@ -17,6 +18,7 @@ CALLS = "crates/demand_2/specs/Calls.antt"
 FROM_C = "crates/demand_2/specs/CallsFromC.antt"
 ADDITIONS = "crates/ultra_format/specs/Additions.antt"
 C = "crates/ultra/src/calls.rt"
+UNPUBLISHED = ": public, expected in docs/CALLS.md, or in INNER of published.py"
 LIB = "crates/making/src/lib.rt"
 ADDS = "crates/making/src/adds.rt"
 ADDING = "crates/adding/src/lib.rt"
@@ -414,7 +416,7 @@ class Names(Case):
         self.change(CURSOR, "    pub fn step", "    fn step")
         self.told(f"Cursor::step, {CURSOR}: `fn step`, expected `pub fn step(..)` in a file without block comments")
         self.change(ASKING, "pub fn size", "pub fn sizes")
-        self.told(f"asking::size, {ASKING}: found 0 times, expected once")
+        self.told(f"asking::size, {ASKING}: found 0 times, expected once", "asking::sizes" + UNPUBLISHED)
         self.change(ASKING, "pub fn size", "fn size() {}\n\npub fn size")
         self.told(f"asking::size, {ASKING}: found 2 times, expected once")
         self.change(LIB, "pub use adds::add_line;", "pub use others::add_line;")
@@ -462,7 +464,7 @@ class Demand2(Case):
         self.change(CALLS, "  askSize : Question\n", "  askSize : Question\n  askMore : Question\n")
         self.told(f"{CALLS}: case `askMore` stands for no call, expected calls that docs/CALLS.md publishes")
         self.change(PAGE, "| `asking::size(buf) -> u32` | the same | the length of `listing` |\n", "")
-        self.told(f"{CALLS}: case `askSize` stands for asking::size, expected calls that docs/CALLS.md publishes")
+        self.told(f"{CALLS}: case `askSize` stands for asking::size, expected calls that docs/CALLS.md publishes", "asking::size" + UNPUBLISHED)
         self.change(FROM_C, "  ultraLook :", "  ultraMore : QuestionFromC\n  ultraLook :")
         self.told(f"{FROM_C}: case `ultraMore` stands for ultra_more, expected calls that docs/CALLS.md publishes")
 
@@ -539,6 +541,15 @@ class Page(Case):
         self.told(f"ultra_add_module, {C}: docs/CALLS.md names `crossed` first, expected `addedMembers`")
         self.change(PAGE, "the length of `listing`", "the length")
         self.told(f"asking::size, {ASKING}: docs/CALLS.md names `nothing` first, expected `listing`")
+
+    def test_a_public_function_that_is_not_there(self):
+        more = ("pub use adds::add_line;", "pub use adds::add_line;\npub use adds::add_more;\npub use adds::More;")
+        self.change(LIB, *more)
+        self.told("making::add_more" + UNPUBLISHED)
+        with mock.patch.object(published, "INNER", {"making::add_more", "elsewhere::room"}):
+            self.change(LIB, *more)
+            self.told()
+            self.told("making::add_more: in INNER of published.py, expected a public function")
 
     def test_an_exported_function_that_is_not_there(self):
         self.change(C, "// fn ultra_look, in a comment", '#[no_mangle]\npub extern "C" fn ultra_more() -> u64\n{\n    0\n}\n')
