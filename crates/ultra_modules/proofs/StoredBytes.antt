@@ -80,17 +80,10 @@ text-bytes (suc k) [] y (suc i) = silence-bytes k i
 text-bytes (suc k) (x ∷ l) y zero = y 0
 text-bytes (suc k) (x ∷ l) y (suc i) = text-bytes k l (λ j. y (suc j)) i
 
-padded-bytes : (k : ℕ) (l : List ℕ) → Bytes l → Bytes (padded k l)
-padded-bytes zero l y i = omega arith
-padded-bytes (suc k) [] y zero = omega arith
-padded-bytes (suc k) [] y (suc i) = padded-bytes k [] y i
-padded-bytes (suc k) (x ∷ l) y zero = y 0
-padded-bytes (suc k) (x ∷ l) y (suc i) = padded-bytes k l (λ j. y (suc j)) i
-
 -- what a field is given to hold are bytes
 abbrev Given : Field → Type 0
 Given (number k n) = Unit {0}
-Given (raw k l) = Bytes l
+Given (raw k l) = Bytes (padded k l)
 Given (text k l) = Bytes l
 Given (padding k) = Unit {0}
 
@@ -100,7 +93,7 @@ AllGiven (f ∷ fs) = Given f × AllGiven fs
 
 field-bytes : (f : Field) → Given f → Bytes (filled (fieldCells f))
 field-bytes (number k n) g = rw (filled-bytes (littleEndian k n)) (bytes-little k n)
-field-bytes (raw k l) g = rw (filled-bytes (padded k l)) (padded-bytes k l g)
+field-bytes (raw k l) g = rw (filled-bytes (padded k l)) g
 field-bytes (text k l) g = text-bytes k l g
 field-bytes (padding k) g = silence-bytes k
 
