@@ -55,12 +55,16 @@ incomplete = addMembers (platformMembers false 2 0 0 [] 0 0 0 0 0)
 incomplete-none : NoModules incomplete
 incomplete-none ms e = let z : _≡_ {A = ℕ} 0 1 = cc in omega arith
 
+every-write : (b : List ℕ) (ks : List AnyCall) (w : Write) → begun b .0 ≡ Done 8 → AllTyped ks → NoModules w
+    → runAny (fromRattle (write w)) (bufferNow b ks) .0 ≡ replyTo (roomOf b) (write w) (listNow b ks)
+every-write b ks w e y n = demand-2 .answers b ks (fromRattle (write w)) e y (other w n) (λ u. no-step w (u .0) (u .1))
+
 -- by the list gs that the calls ks leave in a room
 answered : (b : List ℕ) (room : ℕ) → roomOf b ≡ room → 8 ≤ length b → (ks : List AnyCall) (gs : List Addition) → AllTyped ks → listAfterAll room ks [] ≡ gs
     → (w : Write) → NoModules w → (a : Answer) → replyTo room (write w) gs ≡ answer a → runAny (fromRattle (write w)) (bufferNow b ks) .0 ≡ answer a
 answered b room r long ks gs y l w n a e =
     let q : listNow b ks ≡ gs = ap (λ (m : ℕ). listAfterAll m ks []) r ∙ l in
-    demand-2 .answers b ks (fromRattle (write w)) (demand-2 .begins b long .0) y (other w n) (λ u. no-step w (u .0) (u .1))
+    every-write b ks w (demand-2 .begins b long .0) y n
     ∙ (λ i. replyTo (r i) (write w) (q i))
     ∙ e
 
@@ -96,6 +100,7 @@ one-typed w = (w .0, tt)
 pub writes-answered : AllTyped (adds sixAdditions) → WritesAnswered
 writes-answered w =
     record {
+      every = every-write;
       begun = λ b e. answered b 104 (omega arith) (omega arith) (adds one) one (one-typed w) listed begin begin-none _ begin-reply;
       added = λ b e. answered b 96 (omega arith) (omega arith) [] [] no-calls (none-listed 96) aPlatform (add-none _) _ (platform-replies .0);
       noRoom = λ b e. answered b 95 (omega arith) (omega arith) [] [] no-calls (none-listed 95) aPlatform (add-none _) _ (platform-replies .1);

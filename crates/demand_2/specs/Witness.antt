@@ -15,6 +15,7 @@ use Rattle.refusals.specs.Answers.{refused, numberOf}
 use Rattle.ultra_format.specs.Decoding.{contextOf}
 use Rattle.ultra_format.specs.Contexts.{Context}
 use Rattle.ultra_format.specs.Plain.{Plain}
+use Rattle.ultra_format.specs.Layouts.{roomOf}
 use Rattle.ultra_format.specs.Examples.{zeros, junk, listed, listedBytes, sixTypes, sixTypesBytes}
 use Rattle.ultra_format.specs.Additions.{Addition, bodyGiven}
 use Rattle.ultra_format.specs.Additions.{Addition.addPlatform, Addition.addKernel, Addition.addMap, Addition.addModule, Addition.addCommandLine, Addition.addFramebuffer}
@@ -32,7 +33,7 @@ use Rattle.ultra_acceptance.specs.Acceptance.{HoldsContext}
 use Rattle.demand_3.specs.Witness.{everyPlatformRecord, everyKernelRecord, everyModuleRecord, everyFramebufferRecord, everyEntries, everyLine}
 use Rattle.ultra_acceptance.specs.Steps.{StepsThrough}
 use Rattle.demand_2.specs.Calls.{Members, membersBody, Members.platformMembers, Members.kernelMembers, Members.mapMembers, Members.moduleMembers}
-use Rattle.demand_2.specs.Calls.{Write.begin, Write.add, Write.addMembers, Write.addModules}
+use Rattle.demand_2.specs.Calls.{Write, Write.begin, Write.add, Write.addMembers, Write.addModules}
 use Rattle.demand_2.specs.Calls.{Question, Question.read, Question.step, Question.askAttribute, Question.askStart, Question.askPart, Question.copyMap, Question.copyMapBytes}
 use Rattle.demand_2.specs.Calls.{Question.askLine, Question.locateLine, Question.askModule, Question.list, Question.askListingLength}
 use Rattle.demand_2.specs.Calls.{Call.write, Call.ask, Reply.answer, Reply.several, Reply.number, runWrite, run}
@@ -41,7 +42,7 @@ use Rattle.demand_2.specs.CallsFromC.{AnyCall.fromRattle, AnyCall.fromC}
 use Rattle.demand_2.specs.CallsFromC.{QuestionFromC, QuestionFromC.ultraRead, QuestionFromC.ultraStep, QuestionFromC.ultraAttribute, QuestionFromC.ultraCopyMap, QuestionFromC.ultraCommandLine, QuestionFromC.ultraModuleHolding}
 use Rattle.demand_2.specs.CallsFromC.{WriteFromC.ultraBegin, WriteFromC.ultraAddPlatform, WriteFromC.ultraAddKernel, WriteFromC.ultraAddMap, WriteFromC.ultraAddModule, WriteFromC.ultraAddCommandLine, WriteFromC.ultraAddFramebuffer}
 use Rattle.demand_2.specs.Arguments.{MembersTyped, AllTyped}
-use Rattle.demand_2.specs.Model.{contextGiven, listAfterAll}
+use Rattle.demand_2.specs.Model.{contextGiven, listAfterAll, replyTo}
 use Rattle.demand_2.specs.Demand2.{ReadsBack, adds, AllSucceeded, Appended, withModules, bufferNow, listNow}
 
 -- the records of 01's listing
@@ -254,8 +255,11 @@ pub record TwoAreEnough : Type 0 where
   pub back : (b : List ℕ) → length b ≡ 432 → ReadsBack (bufferNow b (adds two)) two
   pub through : (b : List ℕ) → length b ≡ 432 → StepsThrough (bufferNow b (adds two)) (contextGiven two)
 
--- what is answered of calls that write, other than several modules: of them nothing is asked
+-- what is answered of calls that write, other than several modules: of them nothing is asked, whichever they are
 pub record WritesAnswered : Type 0 where
+  pub every : (b : List ℕ) (ks : List AnyCall) (w : Write) → begun b .0 ≡ Done 8 → AllTyped ks
+      → ((ms : List ModuleRecord) → w ≡ addModules ms → ⊥)
+      → runAny (fromRattle (write w)) (bufferNow b ks) .0 ≡ replyTo (roomOf b) (write w) (listNow b ks)
   pub begun : (b : List ℕ) → length b ≡ 104 → runAny (fromRattle (write begin)) (bufferNow b (adds one)) .0 ≡ answer (Done 8)
   pub added : (b : List ℕ) → length b ≡ 96
       → runAny (fromRattle (write (add (addPlatform (everyPlatformRecord .platform))))) (bufferNow b []) .0 ≡ answer (Done 96)
