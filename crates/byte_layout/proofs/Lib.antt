@@ -6,3 +6,4 @@ pub mod Written
 pub mod Runs
 pub mod PlacedLaws
 pub mod PlacedExample
+pub mod SameFields

@@ -4,7 +4,7 @@ use mathlib.Core.Path.{_≡_, refl}
 use mathlib.Core.List.{List, [], _∷_}
 use native.Mathlib.Omega.{arith}
 use native.Mathlib.Nat.{not-suc-le-zero}
-use lib.ListN.{getD}
+use lib.ListN.{length, getD}
 use Rattle.byte_layout.specs.Stored.{upToZero, textAt}
 
 pub stops : (x : ℕ) (l : List ℕ) → x ≡ 0 → upToZero x l ≡ []
@@ -44,3 +44,25 @@ module _ (b : List ℕ) (o k i : ℕ) where
 
   pub rest-end : k ≤ i → textAt b (o + i) (k - i) ≡ []
   rest-end h = let q : k - i ≡ 0 = omega arith in rw q (text-empty b (o + i))
+
+-- where the text ends before its field does, there is a zero; and back
+pub text-zero : (b : List ℕ) (o k : ℕ) → length (textAt b o k) < k → getD b (o + length (textAt b o k)) 0 ≡ 0
+unfolding textAt
+text-zero b o zero h = absurd (not-suc-le-zero h)
+text-zero b o (suc k) h = go (getD b o 0) refl (textAt b (o + 1) k) (text-zero b (o + 1) k) h
+  where
+    go : (x : ℕ) → getD b o 0 ≡ x → (l : List ℕ) → (length l < k → getD b (o + 1 + length l) 0 ≡ 0) → length (upToZero x l) < suc k → getD b (o + length (upToZero x l)) 0 ≡ 0
+    go zero e l r m = let q : o + 0 ≡ o = omega arith in rw q e
+    go (suc x) e l r m = let q : o + suc (length l) ≡ o + 1 + length l = omega arith in rw q (r (omega arith))
+
+pub zero-text : (b : List ℕ) (o k j : ℕ) → j < k → getD b (o + j) 0 ≡ 0 → length (textAt b o k) < k
+unfolding textAt
+zero-text b o zero j h e = absurd (not-suc-le-zero h)
+zero-text b o (suc k) zero h e = let q : o + 0 ≡ o = omega arith in rw (rw q at e) (omega arith)
+zero-text b o (suc k) (suc j) h e =
+    let q : o + 1 + j ≡ o + suc j = omega arith in
+    go (getD b o 0) (textAt b (o + 1) k) (zero-text b (o + 1) k j (omega arith) (rw q e))
+  where
+    go : (x : ℕ) (l : List ℕ) → length l < k → length (upToZero x l) < suc k
+    go zero l r = omega arith
+    go (suc x) l r = omega arith

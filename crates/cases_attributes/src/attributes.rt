@@ -6,9 +6,9 @@ use cases_contexts::build;
 use cases_shared::members;
 use cases_shared::show;
 use cases_text::print;
+use lent_buffers::Part;
 use refusals::Answer;
 use ultra_questions::AttributeAnswer;
-use ultra_questions::Part;
 
 // A map's or a command line's part; of other types that there is none, wherever it would lie.
 fn part(kind: u32, part: Part, bytes: &[u8]) {

@@ -12,7 +12,8 @@ use Rattle.byte_layout.specs.Fields.{cells, Fits, SilentAt}
 use Rattle.byte_layout.specs.Fields as fields
 use Rattle.refusals.specs.Answers.{valueOf, orRefused}
 use Rattle.ultra_format.specs.Contexts.{typeOf, Attribute, Context, count, sizeAt, bodyAt, typeAt, total, used}
-use Rattle.ultra_format.specs.Layouts.{attributeFields, attributesFields, layout, Opens, roomOf, written}
+use Rattle.lent_buffers.specs.Room.{roomOf}
+use Rattle.ultra_format.specs.Layouts.{attributeFields, attributesFields, layout, Opens, written}
 use Rattle.ultra_format.specs.Places.{placeCheck}
 use Rattle.ultra_format.specs.Rules.{AttributeMeets, Meets}
 use Rattle.ultra_format.specs.Decoding.{storedType, storedCount, typesBefore}

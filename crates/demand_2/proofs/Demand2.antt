@@ -12,7 +12,7 @@ use lib.Seq.{getD-drop, getD-append-add}
 use Rattle.byte_layout.specs.Stored.{over}
 use Rattle.refusals.specs.Refusals.{SHORT}
 use Rattle.refusals.specs.Answers.{refused, numberOf}
-use Rattle.ultra_format.specs.Layouts.{roomOf}
+use Rattle.lent_buffers.specs.Room.{roomOf}
 use Rattle.ultra_format.specs.Decoding.{pick}
 use Rattle.ultra_format.specs.Contexts.{Body, typeOf}
 use Rattle.ultra_format.specs.Plain.{writtenSize}

@@ -12,7 +12,8 @@ use borrow.Author.Tests.{ltb-true}
 use Rattle.byte_layout.specs.Fields.{cells, filled}
 use Rattle.byte_layout.specs.Stored.{Bytes}
 use Rattle.ultra_format.specs.Contexts.{typeOf, Attribute, Context, count, attributeAt, total, used}
-use Rattle.ultra_format.specs.Layouts.{entriesFields, attributesFields, layout, roomOf, written}
+use Rattle.lent_buffers.specs.Room.{roomOf}
+use Rattle.ultra_format.specs.Layouts.{entriesFields, attributesFields, layout, written}
 use Rattle.ultra_format.specs.Decoding.{start, typesBefore, contextOf}
 use Rattle.words.specs.Words.{numberAt, numbersAt}
 use Rattle.ultra_format.specs.Members.{every, sizeSuits, kernelValues, moduleValues, bppSuits, framebufferValues, values, asciiText, pathText, texts, ranges, entriesOrdered, ordered, bodyCheck}

@@ -11,7 +11,8 @@ use Rattle.byte_layout.specs.Fields.{cells, filled, Fits}
 use Rattle.byte_layout.specs.Stored.{over}
 use Rattle.refusals.specs.Answers.{orRefused}
 use Rattle.ultra_format.specs.Contexts.{Body, typeOf, Attribute, Context, total, used}
-use Rattle.ultra_format.specs.Layouts.{attributesFields, layout, Opens, roomOf, written}
+use Rattle.lent_buffers.specs.Room.{roomOf}
+use Rattle.ultra_format.specs.Layouts.{attributesFields, layout, Opens, written}
 use Rattle.ultra_format.specs.Rules.{Meets}
 use Rattle.ultra_format.specs.Decoding.{storedType, storedCount, typesBefore}
 use Rattle.ultra_format.specs.Plain.{writtenSize}

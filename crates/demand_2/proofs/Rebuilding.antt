@@ -13,7 +13,8 @@ use Rattle.byte_layout.proofs.Cells.{filled-only}
 use Rattle.byte_layout.proofs.FieldLaws.{length-cells}
 use Rattle.ultra_format.specs.Contexts.{typeOf, Attribute, Context, count, attributeAt, sizeAt, bodyAt, total, used}
 use Rattle.ultra_format.specs.Contexts.{Body.other}
-use Rattle.ultra_format.specs.Layouts.{layout, roomOf, written}
+use Rattle.lent_buffers.specs.Room.{roomOf}
+use Rattle.ultra_format.specs.Layouts.{layout, written}
 use Rattle.ultra_format.specs.Places.{placeCheck}
 use Rattle.ultra_format.specs.Plain.{writtenSize, Plain}
 use Rattle.ultra_format.specs.Decoding.{storedType, typesBefore}

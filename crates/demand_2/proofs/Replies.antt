@@ -14,7 +14,8 @@ use Rattle.byte_layout.specs.Stored.{bytesAt}
 use Rattle.refusals.specs.Refusals.{MISSING}
 use Rattle.refusals.specs.Answers.{refused}
 use Rattle.ultra_format.specs.Contexts.{Context, count, used, total}
-use Rattle.ultra_format.specs.Layouts.{roomOf, written}
+use Rattle.lent_buffers.specs.Room.{roomOf}
+use Rattle.ultra_format.specs.Layouts.{written}
 use Rattle.ultra_format.specs.Rules.{Meets}
 use Rattle.ultra_format.specs.Decoding.{pick, start, storedCount}
 use Rattle.ultra_format.specs.Additions.{Addition, bodyGiven, formed}
@@ -34,7 +35,7 @@ use Rattle.ultra_reading.proofs.ReadingLaws.{accepted-head, head-refuses}
 use Rattle.ultra_acceptance.specs.Acceptance.{HoldsContext}
 use Rattle.ultra_acceptance.proofs.Walked.{Accepted, accepted}
 use Rattle.ultra_acceptance.proofs.Acceptance.{complete, rehoused, held-reading}
-use Rattle.ultra_questions.specs.Parts.{noPart}
+use Rattle.lent_buffers.specs.LentParts.{noPart}
 use Rattle.ultra_question_statements.specs.ByContext.{ByContext}
 use Rattle.ultra_question_statements.specs.QuestionRefusals.{PassesOn}
 use Rattle.ultra_questions.specs.declared.attributes.AttributeAnswer.{AttributeAnswer}

@@ -9,7 +9,7 @@ use Rattle.refusals.specs.Refusals.{VALUE, ROOM}
 use Rattle.refusals.specs.Answers.{refused}
 use Rattle.refusals.specs.declared.Answer.the-variants.{Done}
 use Rattle.ultra_format.specs.Contexts.{Context, total}
-use Rattle.ultra_format.specs.Layouts.{roomOf}
+use Rattle.lent_buffers.specs.Room.{roomOf}
 use Rattle.ultra_format.specs.Members.{every, sizeSuits, kernelValues, moduleValues, values, asciiText, pathText, texts, ranges, ordered, bodyCheck}
 use Rattle.ultra_format.specs.Places.{placed, occurs, placeCheck}
 use Rattle.ultra_format.specs.Plain.{writtenSize}

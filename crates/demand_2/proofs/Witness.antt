@@ -6,7 +6,7 @@ use native.Mathlib.Omega.{arith}
 use lib.ListN.{length}
 use lib.Seq.{take-all}
 use Rattle.ultra_format.specs.Contexts.{Context, count, bodyAt, total, used}
-use Rattle.ultra_format.specs.Layouts.{roomOf}
+use Rattle.lent_buffers.specs.Room.{roomOf}
 use Rattle.ultra_format.specs.Plain.{Plain}
 use Rattle.ultra_format.specs.Examples.{listed, listedBytes, sixTypes, sixTypesBytes}
 use Rattle.ultra_format.specs.Additions.{Addition}

@@ -15,7 +15,7 @@ use Rattle.ultra_stepping.specs.Stepping.{stepOf}
 use Rattle.ultra_reading.specs.declared.Reading.{Reading}
 use Rattle.ultra_stepping.specs.declared.cursor.Cursor.{Cursor}
 use Rattle.ultra_stepping.specs.declared.cursor.Step.{Step}
-use Rattle.ultra_questions.specs.declared.part.Part.{Part}
+use Rattle.lent_buffers.specs.declared.Part.{Part}
 use Rattle.ultra_questions.specs.declared.attributes.AttributeAnswer.{AttributeAnswer}
 use Rattle.ultra_questions.specs.AttributeQuestion.{attributeStart, attributeAnswer}
 use Rattle.ultra_map_question.specs.MapQuestion.{mapCopied, mapCopiedBytes}

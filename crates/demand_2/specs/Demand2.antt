@@ -21,7 +21,8 @@ use Rattle.refusals.specs.Refusals.{SHORT, COUNT}
 use Rattle.refusals.specs.Answers.{refused, numberOf}
 use Rattle.ultra_format.specs.Contexts.{Context, count, used}
 use Rattle.byte_layout.specs.Fields.{cells, SilentAt}
-use Rattle.ultra_format.specs.Layouts.{attributeFields, roomOf, written}
+use Rattle.lent_buffers.specs.Room.{roomOf}
+use Rattle.ultra_format.specs.Layouts.{attributeFields, written}
 use Rattle.ultra_format.specs.Plain.{Plain}
 use Rattle.ultra_format.specs.Decoding.{pick, storedCount}
 use Rattle.ultra_format.specs.Additions.{Addition, sizeGiven, attributeGiven, bodyGiven}

@@ -29,7 +29,8 @@ use Rattle.ultra_stepping.specs.declared.cursor.Cursor.{Cursor}
 use Rattle.ultra_stepping.specs.declared.cursor.Step.{Step}
 use Rattle.ultra_stepping.specs.declared.cursor.Step.the-variants as stepping
 use Rattle.ultra_acceptance.specs.Acceptance.{versionIn}
-use Rattle.ultra_questions.specs.Parts.{noPart, bodyPart, partBytes}
+use Rattle.lent_buffers.specs.LentParts.{noPart}
+use Rattle.ultra_questions.specs.Parts.{bodyPart, partBytes}
 use Rattle.ultra_questions.specs.AttributeQuestion.{unanswered, startOrCount, withMembers}
 use Rattle.ultra_map_question.specs.MapQuestion.{numbers, mapIn, overBytes}
 use Rattle.ultra_questions.specs.CommandLineQuestion.{commandLineIn, textIn}

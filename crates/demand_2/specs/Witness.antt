@@ -15,7 +15,7 @@ use Rattle.refusals.specs.Answers.{refused, numberOf}
 use Rattle.ultra_format.specs.Decoding.{contextOf}
 use Rattle.ultra_format.specs.Contexts.{Context}
 use Rattle.ultra_format.specs.Plain.{Plain}
-use Rattle.ultra_format.specs.Layouts.{roomOf}
+use Rattle.lent_buffers.specs.Room.{roomOf}
 use Rattle.ultra_format.specs.Examples.{zeros, junk, listed, listedBytes, sixTypes, sixTypesBytes}
 use Rattle.ultra_format.specs.Additions.{Addition, bodyGiven}
 use Rattle.ultra_format.specs.Additions.{Addition.addPlatform, Addition.addKernel, Addition.addMap, Addition.addModule, Addition.addCommandLine, Addition.addFramebuffer}

@@ -10,12 +10,13 @@ use Rattle.byte_layout.specs.Stored.{bytesAt}
 use Rattle.refusals.specs.Refusals.{COUNT}
 use Rattle.refusals.specs.Answers.{refused}
 use Rattle.ultra_format.specs.Contexts.{Context, count, attributeAt, bodyAt, startIn, used}
-use Rattle.ultra_format.specs.Layouts.{roomOf}
+use Rattle.lent_buffers.specs.Room.{roomOf}
 use Rattle.ultra_reading.specs.Reading.{readingValue}
 use Rattle.ultra_acceptance.specs.Acceptance.{HoldsContext}
 use Rattle.ultra_acceptance.proofs.Acceptance.{one-context, silent-bytes, reads-exactly, held-reading}
 use Rattle.ultra_questions.specs.declared.attributes.AttributeAnswer.{AttributeAnswer}
-use Rattle.ultra_questions.specs.Parts.{PartOf, LiesAt, bodyPart, partBytes}
+use Rattle.lent_buffers.specs.LentParts.{PartOf, LiesAt}
+use Rattle.ultra_questions.specs.Parts.{bodyPart, partBytes}
 use Rattle.ultra_questions.specs.AttributeQuestion.{answered, unanswered, startOrCount, withMembers, attributeAnswer, PartHandedBack}
 use Rattle.demand_3.specs.Demand3.{ReadingIs, SameReading, Demand3}
 use Rattle.ultra_question_statements.proofs.PartCells.{part-bytes, slice-bytes, slice-empty}

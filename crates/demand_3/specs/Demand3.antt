@@ -17,7 +17,8 @@ use Rattle.ultra_reading.specs.Reading.{readingOf, readingNumber}
 use Rattle.ultra_reading.specs.declared.Version.{Version}
 use Rattle.ultra_reading.specs.declared.Reading.the-variants.{Accepted}
 use Rattle.ultra_acceptance.specs.Acceptance.{HoldsContext, DiffersInSilence, versionIn}
-use Rattle.ultra_questions.specs.Parts.{PartOf, LiesAt, bodyPart, partBytes}
+use Rattle.lent_buffers.specs.LentParts.{PartOf, LiesAt}
+use Rattle.ultra_questions.specs.Parts.{bodyPart, partBytes}
 use Rattle.ultra_questions.specs.AttributeQuestion.{answered, unanswered, attributeAnswer, PartHandedBack}
 
 -- the bytes at the place that the answer at index i names as its part

@@ -25,9 +25,9 @@ use Rattle.ultra_format.specs.declared.records.OptionalU8.the-variants as narro
 use Rattle.ultra_reading.specs.Reading.{readingOf}
 use Rattle.ultra_reading.specs.declared.Reading.the-variants.{Accepted}
 use Rattle.ultra_acceptance.specs.Acceptance.{HoldsContext, DiffersInSilence}
-use Rattle.ultra_questions.specs.declared.part.Part.{Part}
+use Rattle.lent_buffers.specs.declared.Part.{Part}
 use Rattle.ultra_questions.specs.declared.attributes.AttributeAnswer.{AttributeAnswer}
-use Rattle.ultra_questions.specs.Parts.{part, noPart, PartOf}
+use Rattle.lent_buffers.specs.LentParts.{part, noPart, PartOf}
 use Rattle.ultra_questions.specs.AttributeQuestion.{unanswered, attributeAnswer, PartHandedBack}
 use Rattle.demand_3.specs.Demand3.{partAt, SameReading}
 

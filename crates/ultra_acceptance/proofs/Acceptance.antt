@@ -10,7 +10,8 @@ use Rattle.byte_layout.specs.Stored.{Bytes}
 use Rattle.byte_layout.proofs.Cells.{opens-over}
 use Rattle.byte_layout.proofs.FieldLaws.{length-cells}
 use Rattle.ultra_format.specs.Contexts.{Attribute, Context, count, sizeAt, bodyAt, used}
-use Rattle.ultra_format.specs.Layouts.{layout, Opens, roomOf}
+use Rattle.lent_buffers.specs.Room.{roomOf}
+use Rattle.ultra_format.specs.Layouts.{layout, Opens}
 use Rattle.ultra_format.specs.Rules.{TypeSuits, AttributeMeets, Meets}
 use Rattle.ultra_format.specs.Decoding.{decoded, start, storedType, storedSize, storedCount, storedAttribute, contextOf}
 use Rattle.refusals.specs.Answers.{refused, orRefused}

@@ -15,7 +15,8 @@ use Rattle.byte_layout.specs.Fields.{cells}
 use Rattle.refusals.specs.Refusals.{firstOf}
 use Rattle.refusals.specs.Answers.{orRefused}
 use Rattle.ultra_format.specs.Contexts.{Body}
-use Rattle.ultra_format.specs.Layouts.{bodyFields, roomOf}
+use Rattle.lent_buffers.specs.Room.{roomOf}
+use Rattle.ultra_format.specs.Layouts.{bodyFields}
 use Rattle.ultra_format.specs.Members.{presentIf, sizeSuits, bodyCheck}
 use Rattle.ultra_format.specs.Places.{placeCheck}
 use Rattle.ultra_format.specs.Decoding.{memberWhen, decoded, start, storedCount, typesBefore}
@@ -32,7 +33,7 @@ use Rattle.ultra_reading.proofs.ReadingLaws.{accepted-head, attribute-in-bounds
 use Rattle.ultra_stepping.proofs.BoundsLaws.{BoundsHold, bounds-hold, stop-header}
 use Rattle.ultra_acceptance.specs.Unread.{ReadAlike, SameByte}
 use Rattle.ultra_acceptance.proofs.Acceptance.{suits-type}
-use Rattle.ultra_acceptance.proofs.SameFields.{Same, number-alike, same-holds}
+use Rattle.byte_layout.proofs.SameFields.{Same, number-alike, same-holds}
 
 -- ---- chains: the rest matters only after 0
 first-alike : (n m x y : ℕ) → n ≡ m → (m ≡ 0 → x ≡ y) → firstOf n x ≡ firstOf m y

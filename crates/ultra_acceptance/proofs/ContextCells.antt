@@ -13,7 +13,8 @@ use Rattle.byte_layout.specs.Fields.{Cell.silent}
 use Rattle.byte_layout.proofs.Cells.{not-silent}
 use Rattle.byte_layout.proofs.FieldLaws.{length-cells, cells-append}
 use Rattle.ultra_format.specs.Contexts.{Attribute, Context, typeOf, count, total}
-use Rattle.ultra_format.specs.Layouts.{bodyFields, attributeFields, attributesFields, layout, roomOf, Silent}
+use Rattle.lent_buffers.specs.Room.{roomOf}
+use Rattle.ultra_format.specs.Layouts.{bodyFields, attributeFields, attributesFields, layout, Silent}
 use Rattle.ultra_format.specs.Decoding.{start, storedSize, storedCount, storedAttribute, contextOf}
 use Rattle.ultra_format.proofs.Attributes.{width-attribute, at}
 use Rattle.ultra_format.proofs.Decoded.{count-decoded, at-decoded, start-decoded}

@@ -10,7 +10,8 @@ use lib.Seq.{getD-set-other, take-append-seam}
 use Rattle.refusals.specs.declared.Refusal.{Refusal}
 use Rattle.refusals.specs.Answers.{refusal}
 use Rattle.ultra_format.specs.Contexts.{Context, used}
-use Rattle.ultra_format.specs.Layouts.{Silent, roomOf}
+use Rattle.lent_buffers.specs.Room.{roomOf}
+use Rattle.ultra_format.specs.Layouts.{Silent}
 use Rattle.ultra_format.specs.Decoding.{start, contextOf}
 use Rattle.ultra_format.specs.Examples.{everyType, everyTypeBytes}
 use Rattle.ultra_format.proofs.Witness.{every-type-meets, every-type-opens}

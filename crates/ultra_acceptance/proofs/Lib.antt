@@ -5,7 +5,6 @@ pub mod Least
 pub mod Rows
 pub mod Refusing
 pub mod Steps
-pub mod SameFields
 pub mod SilentCells
 pub mod ContextCells
 pub mod Alike

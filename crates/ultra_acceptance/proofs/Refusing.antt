@@ -7,7 +7,7 @@ use native.Mathlib.Omega.{arith}
 use native.Mathlib.Numerals.{add-one}
 use borrow.Author.Count.{below-none, below-more}
 use Rattle.refusals.specs.Answers.{refused, numberOf, valueOf}
-use Rattle.ultra_format.specs.Layouts.{roomOf}
+use Rattle.lent_buffers.specs.Room.{roomOf}
 use Rattle.ultra_format.specs.Decoding.{start, storedCount}
 use Rattle.refusals.specs.declared.Refusal.{Refusal}
 use Rattle.refusals.specs.declared.Answer.{Answer}

@@ -13,7 +13,7 @@ use Rattle.words.specs.Words.{u32At}
 use Rattle.refusals.specs.Refusals.{HEADER, SIZE, OVERRUN, TYPE}
 use Rattle.refusals.specs.Answers.{refusal}
 use Rattle.ultra_format.specs.Contexts.{Context, count, typeAt, sizeAt, total, startIn, used}
-use Rattle.ultra_format.specs.Layouts.{roomOf}
+use Rattle.lent_buffers.specs.Room.{roomOf}
 use Rattle.ultra_format.specs.Decoding.{start, storedCount}
 use Rattle.refusals.specs.declared.Refusal.{Refusal}
 use Rattle.ultra_format.proofs.Attributes.{Says, sized, opens-says}

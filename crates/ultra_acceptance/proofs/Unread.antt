@@ -9,7 +9,8 @@ use lib.Seq.{getD-take}
 use lib.Dec.{leb, eqb}
 use Rattle.byte_layout.specs.Fields.{cells, width}
 use Rattle.byte_layout.proofs.FieldLaws.{length-cells}
-use Rattle.ultra_format.specs.Layouts.{bodyFields, attributeFields, roomOf}
+use Rattle.lent_buffers.specs.Room.{roomOf}
+use Rattle.ultra_format.specs.Layouts.{bodyFields, attributeFields}
 use Rattle.ultra_format.specs.Decoding.{pick, start, storedType, storedSize, storedCount, storedAttribute, contextOf}
 use Rattle.ultra_format.proofs.Attributes.{width-attribute}
 use Rattle.refusals.proofs.Chains.{passed}
@@ -19,7 +20,7 @@ use Rattle.ultra_stepping.specs.declared.cursor.Cursor.{Cursor}
 use Rattle.ultra_stepping.proofs.HeadLaws.{head-holds}
 use Rattle.ultra_stepping.proofs.BoundsLaws.{bounds-hold}
 use Rattle.ultra_acceptance.specs.Unread.{ReadAlike, PastRoomUnread, SameByte, SameButSilent, SilentUnread, SameButSilentInList, SilentInListUnread}
-use Rattle.ultra_acceptance.proofs.SameFields.{same-along}
+use Rattle.byte_layout.proofs.SameFields.{same-along}
 use Rattle.ultra_acceptance.proofs.SilentCells.{past, silent-body}
 use Rattle.ultra_acceptance.proofs.ContextCells.{header-not-silent, head-not-silent, context-cells}
 use Rattle.ultra_acceptance.proofs.Alike.{step-alike, kind-alike, size-alike, bounds-alike, SameBody, SameRead, count-alike, head-alike, read-alike}

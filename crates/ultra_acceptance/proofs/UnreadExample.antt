@@ -14,7 +14,8 @@ use Rattle.byte_layout.specs.Fields.{Cell, cells, SilentAt}
 use Rattle.byte_layout.specs.Fields.{Cell.byte, Cell.silent}
 use Rattle.byte_layout.specs.Stored.{bytesAt, textAt}
 use Rattle.refusals.specs.Answers.{refusal}
-use Rattle.ultra_format.specs.Layouts.{layout, attributesFields, entriesFields, roomOf}
+use Rattle.lent_buffers.specs.Room.{roomOf}
+use Rattle.ultra_format.specs.Layouts.{layout, attributesFields, entriesFields}
 use Rattle.ultra_format.specs.Members.{every, sizeSuits, values, kernelValues, moduleValues, bppSuits, framebufferValues, texts, asciiText, pathText, ranges, ordered, entriesOrdered, bodyCheck}
 use Rattle.ultra_format.specs.Places.{placed, occurs, placeCheck}
 use Rattle.ultra_format.specs.Decoding.{contextOf, attributesFrom, start, storedType, storedSize, storedCount, decoded, entriesAt, typesBefore}

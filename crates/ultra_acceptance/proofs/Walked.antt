@@ -7,7 +7,7 @@ use mathlib.Core.Logic.{⊎-elim}
 use native.Mathlib.Omega.{arith}
 use native.Mathlib.Nat.{not-suc-le-zero, eq-or-lt-of-le, le-of-suc-le-suc, add-zero, zero-add}
 use lib.ListN.{length}
-use Rattle.ultra_format.specs.Layouts.{roomOf}
+use Rattle.lent_buffers.specs.Room.{roomOf}
 use Rattle.ultra_format.specs.Members.{sizeSuits, values, texts, ranges, ordered, bodyCheck}
 use Rattle.ultra_format.specs.Contexts.{Body}
 use Rattle.ultra_format.specs.Places.{placeCheck}

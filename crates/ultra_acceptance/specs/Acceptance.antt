@@ -9,7 +9,8 @@ use mathlib.Core.List.{List}
 use lib.ListN.{length, getD}
 use Rattle.byte_layout.specs.Stored.{Bytes}
 use Rattle.ultra_format.specs.Contexts.{Context, used}
-use Rattle.ultra_format.specs.Layouts.{Opens, Silent, roomOf}
+use Rattle.lent_buffers.specs.Room.{roomOf}
+use Rattle.ultra_format.specs.Layouts.{Opens, Silent}
 use Rattle.ultra_format.specs.Rules.{Meets}
 use Rattle.refusals.specs.declared.Answer.the-variants.{Done}
 use Rattle.ultra_reading.specs.Reading.{usedLength, readingOf, readingNumber}

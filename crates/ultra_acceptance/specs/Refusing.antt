@@ -12,7 +12,7 @@ use lib.ListN.{getD}
 use Rattle.refusals.specs.Refusals.{SHORT, VERSION, COUNT, MISSING, HEADER, SIZE, OVERRUN, TYPE, PLACE, REPEAT, SPLIT, FORM, VALUE, TEXT, RANGE, ORDER}
 use Rattle.refusals.specs.Answers.{numberOf, valueOf}
 use Rattle.ultra_format.specs.Contexts.{Body}
-use Rattle.ultra_format.specs.Layouts.{roomOf}
+use Rattle.lent_buffers.specs.Room.{roomOf}
 use Rattle.ultra_format.specs.Members.{sizeSuits, values, texts, ranges, ordered}
 use Rattle.ultra_format.specs.Places.{single, repeatable}
 use Rattle.ultra_format.specs.Decoding.{start, storedType, storedSize, storedCount, storedAttribute}

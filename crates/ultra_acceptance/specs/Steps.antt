@@ -11,7 +11,7 @@ use mathlib.Core.List.{List}
 use Rattle.words.specs.Words.{u32At}
 use Rattle.refusals.specs.Refusals.{HEADER, SIZE, OVERRUN, TYPE}
 use Rattle.ultra_format.specs.Contexts.{Context, count, typeAt, sizeAt, startIn}
-use Rattle.ultra_format.specs.Layouts.{roomOf}
+use Rattle.lent_buffers.specs.Room.{roomOf}
 use Rattle.ultra_format.specs.Decoding.{storedCount}
 use Rattle.refusals.specs.declared.Refusal.{Refusal}
 use Rattle.ultra_stepping.specs.Stepping.{stepOf, stepNumber, stepValue}

@@ -6,7 +6,8 @@ use Prim.Native.Nat.{ℕ, _+_, _≤_, _<_}
 use mathlib.Core.Path.{_≡_}
 use mathlib.Core.List.{List}
 use lib.ListN.{getD, take}
-use Rattle.ultra_format.specs.Layouts.{Silent, roomOf}
+use Rattle.lent_buffers.specs.Room.{roomOf}
+use Rattle.ultra_format.specs.Layouts.{Silent}
 use Rattle.ultra_format.specs.Decoding.{start, storedType, storedSize, storedCount, contextOf}
 use Rattle.ultra_reading.specs.Reading.{Clear, usedLength, readingOf}
 use Rattle.ultra_stepping.specs.Stepping.{stepOf}

@@ -10,7 +10,7 @@ use Rattle.words.specs.Words.{replaced}
 use Rattle.byte_layout.specs.Stored.{over}
 use Rattle.refusals.specs.Answers.{orRefused}
 use Rattle.ultra_format.specs.Contexts.{Body, typeOf, Context, used}
-use Rattle.ultra_format.specs.Layouts.{roomOf}
+use Rattle.lent_buffers.specs.Room.{roomOf}
 use Rattle.ultra_format.specs.Decoding.{storedCount, typesBefore}
 use Rattle.ultra_format.specs.Plain.{writtenSize}
 use Rattle.ultra_format.specs.Members.{bodyCheck}

@@ -10,7 +10,7 @@ use borrow.Author.Tests.{le-leb, lt-leb, leb-true, lt-ltb, le-ltb, ltb-true}
 use Rattle.words.specs.Words.{littleEndian, replaced}
 use Rattle.words.proofs.Stores.{length-replaced}
 use Rattle.refusals.specs.Answers.{refusal}
-use Rattle.ultra_format.specs.Layouts.{roomOf}
+use Rattle.lent_buffers.specs.Room.{roomOf}
 use Rattle.ultra_format.specs.Places.{placeCheck}
 use Rattle.ultra_format.specs.Decoding.{storedCount, typesBefore}
 use Rattle.refusals.specs.declared.Refusal.{Refusal}

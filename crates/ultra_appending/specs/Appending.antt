@@ -7,7 +7,7 @@ use lib.Dec.{leb, ltb}
 use Rattle.words.specs.Words.{littleEndian, replaced}
 use Rattle.refusals.specs.Refusals.{unless, firstOf, FULL, ROOM}
 use Rattle.refusals.specs.Answers.{orRefused}
-use Rattle.ultra_format.specs.Layouts.{roomOf}
+use Rattle.lent_buffers.specs.Room.{roomOf}
 use Rattle.ultra_format.specs.Places.{placeCheck}
 use Rattle.ultra_format.specs.Decoding.{storedCount, typesBefore}
 use Rattle.refusals.specs.declared.Answer.{Answer}

@@ -1,7 +1,7 @@
 // One more attribute at the end of a context: what refuses it there, the offset where it goes, and one more in the head's count.
 ghost use mathlib.Core.Path.{_≡_};
 ghost use Prim.Native.Nat.{_≤_};
-ghost use Rattle.ultra_format.specs.Layouts.{roomOf};
+ghost use Rattle.lent_buffers.specs.Room.{roomOf};
 ghost use Rattle.ultra_format.specs.Decoding.{storedCount, typesBefore};
 ghost use Rattle.refusals.specs.declared.Answer.the-variants.{Done};
 ghost use Rattle.ultra_reading.specs.Reading.{usedLength};
@@ -21,7 +21,7 @@ fn check(buf: &[u8], used: u32, kind: u32, given: u16, size: usize) -> u16
     if 1024 <= count {
         return refusals::FULL;
     }
-    let room = ultra_reading::room(buf);
+    let room = lent_buffers::room(buf);
     let place = ultra_reading::next_place_check(buf, count, kind);
     let short = room - (used as usize) < size;
     if place != 0 {

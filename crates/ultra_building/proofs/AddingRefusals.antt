@@ -15,7 +15,7 @@ use Rattle.refusals.specs.Refusals.{unless, firstOf, PLACE, REPEAT, SPLIT, FORM
 use Rattle.refusals.specs.Answers.{refusal, refused, numberOf, valueOf}
 use Rattle.ultra_format.specs.Contexts.{Member, Platform, Body, typeOf, Context, count, typeAt, used}
 use Rattle.ultra_format.specs.Contexts.{Member.present, Member.absent, Body.platform, Body.kernel, Body.memoryMap, Body.moduleInfo, Body.commandLine, Body.framebuffer, Body.other}
-use Rattle.ultra_format.specs.Layouts.{roomOf}
+use Rattle.lent_buffers.specs.Room.{roomOf}
 use Rattle.ultra_format.specs.Members.{presentIf, sizeSuits, values, texts, ranges, ordered, bodyCheck}
 use Rattle.ultra_format.specs.Plain.{writtenSize}
 use Rattle.ultra_format.specs.Places.{placed, occurs, placeCheck}

@@ -18,7 +18,7 @@ use Rattle.refusals.specs.Refusals.{PLACE, REPEAT, SPLIT, FORM, VALUE, TEXT, RA
 use Rattle.refusals.specs.Answers.{numberOf, valueOf}
 use Rattle.ultra_format.specs.Contexts.{Platform, Body, typeOf, Context, count, typeAt, used}
 use Rattle.ultra_format.specs.Contexts.{Member.absent, Body.platform}
-use Rattle.ultra_format.specs.Layouts.{roomOf}
+use Rattle.lent_buffers.specs.Room.{roomOf}
 use Rattle.ultra_format.specs.Members.{values, texts, ranges, ordered}
 use Rattle.ultra_format.specs.Places.{single, repeatable}
 use Rattle.ultra_format.specs.Decoding.{pick}

@@ -6,7 +6,7 @@ use lib.Dec.{leb}
 use Rattle.byte_layout.specs.Stored.{over}
 use Rattle.refusals.specs.Refusals.{SHORT}
 use Rattle.refusals.specs.Answers.{refused}
-use Rattle.ultra_format.specs.Layouts.{roomOf}
+use Rattle.lent_buffers.specs.Room.{roomOf}
 use Rattle.ultra_format.specs.Decoding.{pick}
 use Rattle.refusals.specs.declared.Answer.{Answer}
 use Rattle.refusals.specs.declared.Answer.the-variants.{Done}

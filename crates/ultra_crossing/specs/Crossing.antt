@@ -9,7 +9,7 @@ use Rattle.ultra_reading.specs.Reading.{readingNumber, readingValue}
 use Rattle.ultra_stepping.specs.Stepping.{stepNumber, stepValue}
 use Rattle.ultra_reading.specs.declared.Reading.{Reading}
 use Rattle.ultra_stepping.specs.declared.cursor.Step.{Step}
-use Rattle.ultra_questions.specs.declared.part.Part.{Part}
+use Rattle.lent_buffers.specs.declared.Part.{Part}
 
 abbrev pub numberAndValue : ℕ → ℕ → ℕ
 numberAndValue number value = number * 4294967296 + value

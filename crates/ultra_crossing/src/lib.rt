@@ -1,9 +1,9 @@
 // Answers as one number.
 ghost use mathlib.Core.Path.{_≡_};
 ghost use Rattle.ultra_crossing.specs.Crossing.{numberAndValue, answerCrossed, stepCrossed, readingCrossed, partCrossed};
+use lent_buffers::Part;
 use refusals::Answer;
 use refusals::Refusal;
-use ultra_questions::Part;
 use ultra_reading::Reading;
 use ultra_reading::Step;
 

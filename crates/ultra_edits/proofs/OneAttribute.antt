@@ -15,7 +15,8 @@ use Rattle.words.proofs.Stores.{replaced-same}
 use Rattle.byte_layout.specs.Fields.{Field, bytes, cells, filled, Fits}
 use Rattle.byte_layout.proofs.Cells.{At, opens-at}
 use Rattle.ultra_format.specs.Contexts.{typeOf, Attribute, Context, count, sizeAt, typeAt, attributeAt, total, startIn, used}
-use Rattle.ultra_format.specs.Layouts.{attributeFields, attributesFields, layout, Opens, attributeWritten, roomOf}
+use Rattle.lent_buffers.specs.Room.{roomOf}
+use Rattle.ultra_format.specs.Layouts.{attributeFields, attributesFields, layout, Opens, attributeWritten}
 use Rattle.ultra_format.specs.Rules.{AttributeMeets, Meets}
 use Rattle.ultra_format.proofs.Attributes.{attribute}
 use Rattle.ultra_format.specs.Contexts.{Body.other}

@@ -9,7 +9,8 @@ use lib.ListN.{length, getD, take, drop}
 use Rattle.words.specs.Words.{replaced}
 use Rattle.byte_layout.specs.Fields.{cells, filled, Fits}
 use Rattle.ultra_format.specs.Contexts.{typeOf, Attribute, Context, count, sizeAt, typeAt, total, startIn, used}
-use Rattle.ultra_format.specs.Layouts.{attributeFields, attributesFields, roomOf, attributeWritten, written}
+use Rattle.lent_buffers.specs.Room.{roomOf}
+use Rattle.ultra_format.specs.Layouts.{attributeFields, attributesFields, attributeWritten, written}
 use Rattle.ultra_format.specs.Rules.{AttributeMeets, Meets}
 use Rattle.ultra_acceptance.specs.Acceptance.{HoldsContext}
 use Rattle.ultra_edits.specs.Splicing.{spliced, counting}

@@ -15,7 +15,8 @@ use Rattle.byte_layout.specs.Fields.{Cell.byte, Cell.silent}
 use Rattle.byte_layout.specs.Stored.{Bytes, bytesAt, textAt}
 use Rattle.byte_layout.proofs.Cells.{not-silent}
 use Rattle.ultra_format.specs.Contexts.{typeOf, Attribute, Context, count, attributeAt, typeAt, sizeAt, bodyAt, total, used}
-use Rattle.ultra_format.specs.Layouts.{layout, attributesFields, entriesFields, Opens, roomOf, written}
+use Rattle.lent_buffers.specs.Room.{roomOf}
+use Rattle.ultra_format.specs.Layouts.{layout, attributesFields, entriesFields, Opens, written}
 use Rattle.ultra_format.specs.Members.{every, sizeSuits, values, kernelValues, moduleValues, bppSuits, framebufferValues, texts, asciiText, pathText, ranges, ordered, entriesOrdered}
 use Rattle.ultra_format.specs.Rules.{TypeSuits, AttributeMeets, Meets}
 use Rattle.ultra_format.specs.Plain.{writtenSize, Plain}

@@ -2,9 +2,8 @@
 -- bytes are silent, what is plain and what a writer writes all come from this one definition. Reading decodes by the table's offsets
 -- (Decoding); `says-decoded`, in proofs/Decoded.antt, proves that the two agree.
 -- A reader has to believe this file.
-use Prim.Native.Nat.{ℕ, _+_, _-_, min}
+use Prim.Native.Nat.{ℕ, _+_, _-_}
 use mathlib.Core.List.{List, [], _∷_, _++_}
-use lib.ListN.{length}
 use Rattle.byte_layout.specs.Fields.{Field, cells, filled, SilentAt}
 use Rattle.byte_layout.specs.Fields as fields
 use Rattle.byte_layout.specs.Fields.{Field.number, Field.raw, Field.text, Field.padding}
@@ -57,10 +56,6 @@ attributesFields (a ∷ l) = attributeFields a ++ attributesFields l
 -- "Head, 8 bytes: major u8, minor u8, reserved u16, attribute count u32"; then the attributes, "laid end to end"
 abbrev pub layout : Context → List Field
 layout c = number 1 (c .major) ∷ number 1 (c .minor) ∷ padding 2 ∷ number 4 (count c) ∷ attributesFields (c .attributes)
-
--- "**Room** is the smaller of the buffer's length and 65,536." 01's term.
-abbrev pub roomOf : List ℕ → ℕ
-roomOf b = min (length b) 65536
 
 -- "its bytes open a buffer if every byte there that is not silent is as the list says"
 abbrev pub Opens : List ℕ → Context → Type 0

@@ -12,7 +12,7 @@ use Rattle.refusals.specs.Answers.{refused, numberOf, valueOf}
 use Rattle.refusals.specs.declared.Answer.the-variants.{Done}
 use Rattle.ultra_format.specs.Contexts.{Member, Entry, Body}
 use Rattle.ultra_format.specs.Contexts.{Member.present, Member.absent, Body.platform, Body.memoryMap, Body.commandLine, Body.other}
-use Rattle.ultra_format.specs.Layouts.{roomOf}
+use Rattle.lent_buffers.specs.Room.{roomOf}
 use Rattle.ultra_format.specs.Members.{bodyCheck}
 use Rattle.ultra_format.specs.Places.{placed, single, repeatable, placeCheck}
 use Rattle.ultra_format.specs.Records.{trimmed}

@@ -7,7 +7,7 @@ use native.Mathlib.Omega.{arith}
 use lib.ListN.{length}
 use Rattle.words.specs.Words.{u32At}
 use Rattle.ultra_format.specs.Contexts.{used}
-use Rattle.ultra_format.specs.Layouts.{roomOf}
+use Rattle.lent_buffers.specs.Room.{roomOf}
 use Rattle.ultra_format.specs.Members.{sizeSuits}
 use Rattle.ultra_format.specs.Decoding.{decoded, start, storedSize, storedCount, storedAttribute, contextOf}
 use Rattle.ultra_format.proofs.Decoded.{used-decoded}

@@ -9,14 +9,15 @@ use borrow.Author.Tests.{eqb-true, eqb-false}
 use denote.Ref.{RefT}
 use Rattle.byte_layout.specs.Stored.{bytesAt}
 use Rattle.ultra_format.specs.Contexts.{Attribute, Context, used}
-use Rattle.ultra_format.specs.Layouts.{roomOf}
+use Rattle.lent_buffers.specs.Room.{roomOf}
 use Rattle.ultra_format.specs.Decoding.{start, contextOf}
 use Rattle.refusals.specs.declared.Answer.the-variants.{Done}
 use Rattle.ultra_format.proofs.Decoded.{count-decoded, start-decoded, at-decoded, decoded-only}
 use Rattle.ultra_reading.specs.Reading.{usedLength}
 use Rattle.ultra_acceptance.specs.Acceptance.{HoldsContext}
 use Rattle.ultra_acceptance.proofs.Acceptance.{complete}
-use Rattle.ultra_questions.specs.Parts.{PartOf, LiesAt, bodyPart, partBytes}
+use Rattle.lent_buffers.specs.LentParts.{PartOf, LiesAt}
+use Rattle.ultra_questions.specs.Parts.{bodyPart, partBytes}
 use Rattle.ultra_questions.specs.AttributeQuestion.{attributeStart, attributeAnswer}
 use Rattle.ultra_map_question.specs.MapQuestion.{mapCopied}
 use Rattle.ultra_questions.specs.CommandLineQuestion.{commandLineIn, textIn, commandLinePart, LineHandedBack}

@@ -15,11 +15,13 @@ use Rattle.byte_layout.specs.Fields.{cells, filled}
 use Rattle.byte_layout.specs.Stored.{over}
 use Rattle.ultra_format.specs.Contexts.{Entry, Module, Body, typeOf, Context, count, bodyAt, typeAt, startIn}
 use Rattle.ultra_format.specs.Contexts.{Body.platform, Body.kernel, Body.memoryMap, Body.moduleInfo, Body.commandLine, Body.framebuffer, Body.other}
-use Rattle.ultra_format.specs.Layouts.{entriesFields, roomOf}
+use Rattle.lent_buffers.specs.Room.{roomOf}
+use Rattle.ultra_format.specs.Layouts.{entriesFields}
 use Rattle.ultra_format.specs.Rules.{Meets}
 use Rattle.refusals.specs.declared.Answer.the-variants.{Done}
 use Rattle.refusals.proofs.Chains.{both-hold}
-use Rattle.ultra_questions.specs.Parts.{part, noPart, bodyPart, partBytes}
+use Rattle.lent_buffers.specs.LentParts.{part, noPart}
+use Rattle.ultra_questions.specs.Parts.{bodyPart, partBytes}
 use Rattle.ultra_locating.specs.Searching.{firstIn, foundStart}
 use Rattle.ultra_map_question.specs.MapQuestion.{numbers, mapIn, mapCopiedBytes}
 use Rattle.ultra_questions.specs.CommandLineQuestion.{commandLineIn, textIn}

@@ -15,7 +15,7 @@ use Rattle.refusals.specs.Refusals.{COUNT, ROOM, ABSENT}
 use Rattle.refusals.specs.Answers.{refusal, refused}
 use Rattle.ultra_format.specs.Contexts.{Entry, Body, typeOf, Context, count, attributeAt, bodyAt, typeAt, startIn, used}
 use Rattle.ultra_format.specs.Contexts.{Body.platform, Body.kernel, Body.memoryMap, Body.moduleInfo, Body.commandLine, Body.framebuffer, Body.other}
-use Rattle.ultra_format.specs.Layouts.{roomOf}
+use Rattle.lent_buffers.specs.Room.{roomOf}
 use Rattle.ultra_format.specs.Rules.{TypeSuits, Meets}
 use Rattle.ultra_format.specs.Decoding.{pick}
 use Rattle.refusals.specs.declared.Refusal.{Refusal}
@@ -25,9 +25,10 @@ use Rattle.ultra_reading.specs.Reading.{usedLength, withVersion, versionOf, rea
 use Rattle.ultra_reading.specs.declared.Reading.the-variants as reading
 use Rattle.ultra_acceptance.specs.Acceptance.{HoldsContext}
 use Rattle.ultra_acceptance.proofs.Acceptance.{accepts-exactly}
-use Rattle.ultra_questions.specs.declared.part.Part.{Part}
+use Rattle.lent_buffers.specs.declared.Part.{Part}
 use Rattle.ultra_questions.specs.declared.attributes.AttributeAnswer.{AttributeAnswer}
-use Rattle.ultra_questions.specs.Parts.{part, PartOf, partBytes}
+use Rattle.lent_buffers.specs.LentParts.{part, PartOf}
+use Rattle.ultra_questions.specs.Parts.{partBytes}
 use Rattle.ultra_locating.specs.Searching.{firstIn, ofType}
 use Rattle.ultra_question_statements.specs.EveryBuffer.{RefusedBy, MapHeld, NoLine, LineHeld, AnswersOf, EveryBuffer}
 use Rattle.ultra_question_statements.specs.QuestionRefusals.{MapRefused, QuestionsRefuseExactly, RefusalsPassOn}

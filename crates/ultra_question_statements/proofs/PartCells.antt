@@ -24,8 +24,9 @@ use Rattle.ultra_format.proofs.Bodies.{width-entries}
 use Rattle.refusals.proofs.Chains.{both-hold}
 use Rattle.ultra_format.proofs.Attributes.{sized}
 use Rattle.ultra_format.proofs.Rows.{each-at}
-use Rattle.ultra_questions.specs.declared.part.Part.{Part}
-use Rattle.ultra_questions.specs.Parts.{noPart, PartOf, bodyPart, partBytes}
+use Rattle.lent_buffers.specs.declared.Part.{Part}
+use Rattle.lent_buffers.specs.LentParts.{noPart, PartOf}
+use Rattle.ultra_questions.specs.Parts.{bodyPart, partBytes}
 
 -- a slice that is a part has the bytes there
 pub slice-bytes : (b : List ℕ) (lent s : RefT (List ℕ)) (p : Part) → s .now ≡ b → PartOf lent s p → lent .now ≡ bytesAt b (p .start) (p .length)

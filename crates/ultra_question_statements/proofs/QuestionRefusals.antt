@@ -15,7 +15,7 @@ use Rattle.refusals.specs.Refusals.{COUNT, ROOM, ABSENT}
 use Rattle.refusals.specs.Answers.{refused, numberOf, valueOf}
 use Rattle.ultra_format.specs.Contexts.{Entry, Body, typeOf, Context, count, attributeAt, bodyAt, typeAt, startIn, used}
 use Rattle.ultra_format.specs.Contexts.{Body.platform, Body.kernel, Body.memoryMap, Body.moduleInfo, Body.commandLine, Body.framebuffer, Body.other}
-use Rattle.ultra_format.specs.Layouts.{roomOf}
+use Rattle.lent_buffers.specs.Room.{roomOf}
 use Rattle.ultra_format.specs.Rules.{TypeSuits, Meets}
 use Rattle.ultra_format.specs.Decoding.{pick, contextOf}
 use Rattle.refusals.specs.declared.Refusal.{Refusal}

@@ -8,7 +8,7 @@ use denote.Ref.{RefT}
 use Rattle.byte_layout.specs.Stored.{bytesAt}
 use Rattle.ultra_format.specs.Contexts.{Context, attributeAt}
 use Rattle.ultra_acceptance.specs.Acceptance.{HoldsContext}
-use Rattle.ultra_questions.specs.Parts.{PartOf, LiesAt}
+use Rattle.lent_buffers.specs.LentParts.{PartOf, LiesAt}
 use Rattle.ultra_questions.specs.AttributeQuestion.{startOrCount, withMembers, attributeStart, attributeAnswer}
 use Rattle.ultra_map_question.specs.MapQuestion.{mapIn, mapCopied}
 use Rattle.ultra_questions.specs.CommandLineQuestion.{commandLineIn, textIn, commandLinePart, LineHandedBack}

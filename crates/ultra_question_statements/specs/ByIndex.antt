@@ -11,7 +11,8 @@ use Rattle.byte_layout.specs.Stored.{Bytes, over}
 use Rattle.ultra_format.specs.Contexts.{Entry, Module, Body.memoryMap, Body.moduleInfo, Body.commandLine, Context, count, bodyAt, typeAt, startIn}
 use Rattle.refusals.specs.declared.Answer.the-variants.{Done}
 use Rattle.ultra_acceptance.specs.Acceptance.{HoldsContext}
-use Rattle.ultra_questions.specs.Parts.{part, noPart, partBytes}
+use Rattle.lent_buffers.specs.LentParts.{part, noPart}
+use Rattle.ultra_questions.specs.Parts.{partBytes}
 use Rattle.ultra_map_question.specs.MapQuestion.{numbers, mapCopied, mapCopiedBytes}
 use Rattle.ultra_questions.specs.CommandLineQuestion.{textIn, commandLinePart}
 use Rattle.ultra_questions.specs.ModuleQuestion.{moduleHolding}

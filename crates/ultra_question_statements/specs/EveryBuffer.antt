@@ -15,7 +15,8 @@ use Rattle.refusals.specs.declared.Answer.the-variants.{Done, Refused}
 use Rattle.ultra_reading.specs.Reading.{readingOf}
 use Rattle.ultra_reading.specs.declared.Reading.the-variants as reading
 use Rattle.ultra_acceptance.specs.Acceptance.{HoldsContext}
-use Rattle.ultra_questions.specs.Parts.{part, PartOf, LiesAt, partBytes}
+use Rattle.lent_buffers.specs.LentParts.{part, PartOf, LiesAt}
+use Rattle.ultra_questions.specs.Parts.{partBytes}
 use Rattle.ultra_questions.specs.AttributeQuestion.{answered, attributeStart, attributeAnswer, PartHandedBack}
 use Rattle.ultra_map_question.specs.MapQuestion.{numbers, mapCopied, mapCopiedBytes}
 use Rattle.ultra_questions.specs.CommandLineQuestion.{LineHandedBack}

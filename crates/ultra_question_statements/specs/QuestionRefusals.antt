@@ -18,7 +18,7 @@ use Rattle.refusals.specs.declared.Answer.{Answer}
 use Rattle.refusals.specs.declared.Answer.the-variants.{Refused}
 use Rattle.ultra_acceptance.specs.Acceptance.{HoldsContext}
 use Rattle.ultra_reading.specs.Reading.{usedLength}
-use Rattle.ultra_questions.specs.Parts.{noPart}
+use Rattle.lent_buffers.specs.LentParts.{noPart}
 use Rattle.ultra_questions.specs.AttributeQuestion.{unanswered, attributeStart, attributeAnswer, PartHandedBack}
 use Rattle.ultra_map_question.specs.MapQuestion.{mapCopied, mapCopiedBytes}
 use Rattle.ultra_questions.specs.CommandLineQuestion.{commandLinePart, LineHandedBack}

@@ -9,7 +9,7 @@ use Rattle.refusals.specs.Answers.{refused}
 use Rattle.ultra_format.specs.Examples.{everyType, everyTypeBytes}
 use Rattle.refusals.specs.declared.Answer.the-variants.{Done}
 use Rattle.ultra_acceptance.specs.Acceptance.{HoldsContext}
-use Rattle.ultra_questions.specs.Parts.{part}
+use Rattle.lent_buffers.specs.LentParts.{part}
 use Rattle.ultra_questions.specs.AttributeQuestion.{attributeStart}
 use Rattle.ultra_map_question.specs.MapQuestion.{mapCopied, mapCopiedBytes}
 use Rattle.ultra_questions.specs.CommandLineQuestion.{commandLinePart}

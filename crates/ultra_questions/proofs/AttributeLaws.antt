@@ -19,7 +19,7 @@ use Rattle.ultra_format.specs.declared.records.Records.{Records}
 use Rattle.ultra_format.proofs.Bodies.{decoded-type}
 use Rattle.ultra_format.proofs.Decoded.{count-decoded, start-decoded, at-decoded}
 use Rattle.ultra_reading.specs.Reading.{usedLength}
-use Rattle.ultra_questions.specs.declared.part.Part.{Part}
+use Rattle.lent_buffers.specs.declared.Part.{Part}
 use Rattle.ultra_questions.specs.declared.attributes.AttributeAnswer.{AttributeAnswer}
 use Rattle.ultra_locating.specs.Passing.{ifAccepted, Accepts}
 use Rattle.ultra_questions.specs.Parts.{bodyPart}

@@ -14,7 +14,8 @@ use Rattle.ultra_format.specs.Members.{sizeSuits}
 use Rattle.ultra_format.specs.Decoding.{decoded, entriesAt}
 use Rattle.ultra_format.proofs.Bodies.{by-type}
 use Rattle.ultra_format.proofs.Sizes.{map-size}
-use Rattle.ultra_questions.specs.Parts.{part, noPart, bodyPart}
+use Rattle.lent_buffers.specs.LentParts.{part, noPart}
+use Rattle.ultra_questions.specs.Parts.{bodyPart}
 use Rattle.address_ranges.specs.Ranges.{covers}
 use Rattle.ultra_questions.specs.ModuleQuestion.{holding}
 

@@ -12,9 +12,9 @@ use Rattle.refusals.specs.declared.Refusal.{Refusal}
 use Rattle.refusals.specs.declared.Answer.{Answer}
 use Rattle.refusals.specs.declared.Answer.the-variants.{Done, Refused}
 use Rattle.ultra_reading.specs.Reading.{usedLength}
-use Rattle.ultra_questions.specs.declared.part.Part.{Part}
+use Rattle.lent_buffers.specs.declared.Part.{Part}
 use Rattle.ultra_locating.specs.Passing.{ifAccepted}
-use Rattle.ultra_questions.specs.Parts.{noPart}
+use Rattle.lent_buffers.specs.LentParts.{noPart}
 use Rattle.ultra_locating.specs.Searching.{Found, firstIn, foundStart, ofType}
 use Rattle.ultra_questions.specs.CommandLineQuestion.{foundPart, commandLineIn, commandLinePart}
 use Rattle.ultra_locating.proofs.Located.{inside}

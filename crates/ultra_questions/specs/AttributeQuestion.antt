@@ -15,7 +15,8 @@ use Rattle.refusals.specs.declared.Answer.the-variants.{Done, Refused}
 use Rattle.ultra_reading.specs.Reading.{usedLength}
 use Rattle.ultra_questions.specs.declared.attributes.AttributeAnswer.{AttributeAnswer}
 use Rattle.ultra_locating.specs.Passing.{ifAccepted}
-use Rattle.ultra_questions.specs.Parts.{noPart, PartOf, bodyPart}
+use Rattle.lent_buffers.specs.LentParts.{noPart, PartOf}
+use Rattle.ultra_questions.specs.Parts.{bodyPart}
 
 -- the answer for an attribute that starts at `o`: its value is the start
 abbrev pub answered : ℕ → Attribute → AttributeAnswer

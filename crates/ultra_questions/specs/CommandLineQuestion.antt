@@ -6,9 +6,10 @@ use denote.Ref.{RefT}
 use Rattle.ultra_format.specs.Contexts.{Context}
 use Rattle.ultra_format.specs.Decoding.{contextOf}
 use Rattle.ultra_reading.specs.Reading.{usedLength}
-use Rattle.ultra_questions.specs.declared.part.Part.{Part}
+use Rattle.lent_buffers.specs.declared.Part.{Part}
 use Rattle.ultra_locating.specs.Passing.{ifAccepted}
-use Rattle.ultra_questions.specs.Parts.{noPart, PartOf, bodyPart, partBytes}
+use Rattle.lent_buffers.specs.LentParts.{noPart, PartOf}
+use Rattle.ultra_questions.specs.Parts.{bodyPart, partBytes}
 use Rattle.ultra_locating.specs.Searching.{Found, Found.none, Found.found, firstIn, ofType}
 
 abbrev pub foundPart : Found → Part

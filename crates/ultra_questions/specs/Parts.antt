@@ -1,35 +1,14 @@
 -- Parts of a lent buffer: "a map or command line as its part of the buffer's entries or text, up to its zero".
 -- A reader has to believe this file.
-use Prim.Native.Nat.{ℕ, _+_, _*_, _≤_}
-use mathlib.Core.Path.{_≡_}
+use Prim.Native.Nat.{ℕ, _+_, _*_}
 use mathlib.Core.List.{List, []}
 use lib.ListN.{length}
-use denote.Ref.{RefT}
 use Rattle.byte_layout.specs.Fields.{cells, filled}
-use Rattle.byte_layout.specs.Stored.{bytesAt}
 use Rattle.ultra_format.specs.Contexts.{Body}
 use Rattle.ultra_format.specs.Contexts.{Body.platform, Body.kernel, Body.memoryMap, Body.moduleInfo, Body.commandLine, Body.framebuffer, Body.other}
 use Rattle.ultra_format.specs.Layouts.{entriesFields}
-use Rattle.ultra_questions.specs.declared.part.Part.{Part}
-
-abbrev pub part : ℕ → ℕ → Part
-part o n = record { start = o; length = n }
-
--- where an attribute has no part, there is no command line or the buffer is refused: an empty part; that it lies at the buffer's start
--- is a decision
-abbrev pub noPart : Part
-noPart = part 0 0
-
--- r is that part of s and no copy: it points into the same memory, `start` bytes further on, lies within s and has the bytes there
-pub record PartOf (r s : RefT (List ℕ)) (p : Part) : Type 0 where
-  pub block : r .ptr .0 ≡ s .ptr .0
-  pub offset : r .ptr .1 ≡ p .start + s .ptr .1
-  pub within : p .start + p .length ≤ length (s .now)
-  pub has : r .now ≡ bytesAt (s .now) (p .start) (p .length)
-
--- the same said of the pointers alone, apart from `PartOf`: r is memory of s, `o` bytes further on
-abbrev pub LiesAt : RefT (List ℕ) → RefT (List ℕ) → ℕ → Type 0
-LiesAt r s o = (r .ptr .0 ≡ s .ptr .0) × (r .ptr .1 ≡ o + s .ptr .1)
+use Rattle.lent_buffers.specs.declared.Part.{Part}
+use Rattle.lent_buffers.specs.LentParts.{part, noPart}
 
 -- the part of an attribute that starts at `o`: entries and text stand from its byte 8 on
 unfoldable pub bodyPart : ℕ → Body → Part

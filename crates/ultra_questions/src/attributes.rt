@@ -1,8 +1,8 @@
 // The attribute at an index.
 ghost use mathlib.Core.Path.{_≡_};
-ghost use Rattle.ultra_questions.specs.Parts.{PartOf};
+ghost use Rattle.lent_buffers.specs.LentParts.{PartOf};
 ghost use Rattle.ultra_questions.specs.AttributeQuestion.{attributeStart, attributeAnswer, unanswered};
-use crate::part::Part;
+use lent_buffers::Part;
 use refusals::Answer;
 use refusals::Refusal;
 use ultra_format::Records;
@@ -37,7 +37,7 @@ fn unanswered(answer: Answer) -> AttributeAnswer
     ensures { λ r. ⌜ r ≡ unanswered answer ⌝ }
 {
     let records = ultra_records::blank();
-    let part = crate::part::none();
+    let part = lent_buffers::no_part();
     AttributeAnswer {
         answer,
         header: Header {
@@ -75,5 +75,5 @@ pub fn attribute_part(buf: &[u8], index: u64) -> &[u8]
     ensures { λ r. ⌜ PartOf r (buf .entry) (attributeAnswer (now (buf .entry)) index .part) ⌝ }
 {
     let answer = attribute(buf, index);
-    crate::part::slice(buf, answer.part)
+    lent_buffers::slice(buf, answer.part)
 }

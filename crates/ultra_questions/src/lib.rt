@@ -12,6 +12,5 @@ pub use attributes::attribute_start;
 pub use line::command_line;
 pub use line::command_line_part;
 pub use module::module_holding;
-pub use part::Part;
 pub use ultra_map_question::copy_map;
 pub use ultra_map_question::copy_map_bytes;

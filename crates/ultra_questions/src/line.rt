@@ -1,8 +1,8 @@
 // The command line.
 ghost use mathlib.Core.Path.{_≡_};
-ghost use Rattle.ultra_questions.specs.Parts.{PartOf};
+ghost use Rattle.lent_buffers.specs.LentParts.{PartOf};
 ghost use Rattle.ultra_questions.specs.CommandLineQuestion.{commandLinePart};
-use crate::part::Part;
+use lent_buffers::Part;
 use refusals::Answer;
 use ultra_layout::attribute;
 use ultra_layout::types;
@@ -13,11 +13,11 @@ pub fn command_line_part(buf: &[u8]) -> Part
 {
     let answer = ultra_reading::used_length(buf, 2);
     let Answer::Done(_) = answer else {
-        return crate::part::none();
+        return lent_buffers::no_part();
     };
     let start = ultra_locating::first_of_type(buf, types::COMMAND_LINE);
     if start == 0 {
-        return crate::part::none();
+        return lent_buffers::no_part();
     }
     let size = words::load_u32(buf, start as usize + attribute::SIZE);
     crate::part::of_body(buf, start, size, types::COMMAND_LINE)
@@ -28,5 +28,5 @@ pub fn command_line(buf: &[u8]) -> &[u8]
     ensures { λ r. ⌜ PartOf r (buf .entry) (commandLinePart (now (buf .entry))) ⌝ }
 {
     let part = command_line_part(buf);
-    crate::part::slice(buf, part)
+    lent_buffers::slice(buf, part)
 }

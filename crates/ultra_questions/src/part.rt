@@ -5,26 +5,11 @@ ghost use Prim.Native.Nat.{_+_, _≤_};
 ghost use lib.ListN.{length};
 ghost use Rattle.ultra_format.specs.Members.{sizeSuits};
 ghost use Rattle.ultra_format.specs.Decoding.{decoded};
-ghost use Rattle.ultra_questions.specs.Parts.{PartOf, noPart, bodyPart};
+ghost use Rattle.ultra_questions.specs.Parts.{bodyPart};
+use lent_buffers::Part;
 use ultra_layout::command_line;
 use ultra_layout::map;
 use ultra_layout::types;
-
-// Where a part of the buffer starts, and how long it is.
-pub struct Part {
-    pub start: u32,
-    pub length: u32,
-}
-
-// No part: it is empty, at the buffer's start.
-pub fn none() -> Part
-    ensures { λ r. ⌜ r ≡ noPart ⌝ }
-{
-    Part {
-        start: 0,
-        length: 0,
-    }
-}
 
 // The part of the attribute of type `kind` in the `size` bytes from `start` on: a map's entries, a command line's text up to its zero.
 pub fn of_body(buf: &[u8], start: u32, size: u32, kind: u32) -> Part
@@ -49,15 +34,5 @@ pub fn of_body(buf: &[u8], start: u32, size: u32, kind: u32) -> Part
             length: length as u32,
         };
     }
-    none()
-}
-
-// The part as a slice of the lent buffer.
-pub fn slice(buf: &[u8], part: Part) -> &[u8]
-    requires { ⌜ part .start + part .length ≤ length (now buf) ⌝ }
-    ensures { λ r. ⌜ PartOf r (buf .entry) part ⌝ }
-{
-    let start = part.start as usize;
-    let length = part.length as usize;
-    &buf[start..start + length]
+    lent_buffers::no_part()
 }

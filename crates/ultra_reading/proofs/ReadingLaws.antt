@@ -11,7 +11,7 @@ use Rattle.words.specs.Words.{u32At}
 use Rattle.refusals.specs.Answers.{refused}
 use Rattle.refusals.specs.declared.Answer.the-variants.{Done}
 use Rattle.refusals.proofs.Chains.{none-first, first-stays, refuses, not-refused}
-use Rattle.ultra_format.specs.Layouts.{roomOf}
+use Rattle.lent_buffers.specs.Room.{roomOf}
 use Rattle.ultra_format.specs.Members.{bodyCheck}
 use Rattle.ultra_format.specs.Places.{placed, occurs, placeCheck}
 use Rattle.ultra_format.specs.Decoding.{decoded, start, storedType, storedCount, typesBefore}

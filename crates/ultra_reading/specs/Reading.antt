@@ -8,7 +8,7 @@ use lib.ListN.{getD}
 use Rattle.words.specs.Words.{u32At}
 use Rattle.refusals.specs.Refusals.{firstOf}
 use Rattle.refusals.specs.Answers.{orRefused, orRefusedAt}
-use Rattle.ultra_format.specs.Layouts.{roomOf}
+use Rattle.lent_buffers.specs.Room.{roomOf}
 use Rattle.ultra_format.specs.Members.{bodyCheck}
 use Rattle.ultra_format.specs.Places.{placeCheck}
 use Rattle.ultra_format.specs.Decoding.{decoded, start, storedCount, typesBefore}

@@ -9,7 +9,6 @@ pub use ultra_places::next_place_check;
 pub use ultra_stepping::Cursor;
 pub use ultra_stepping::Header;
 pub use ultra_stepping::Step;
-pub use ultra_stepping::room;
 
 pub struct Version {
     pub major: u8,
@@ -31,7 +30,7 @@ pub fn used_length(buf: &[u8], fewest: u32) -> Answer
         return Answer::Refused(Refusal::new(number, 0));
     }
     let count = words::load_u32(buf, ultra_layout::head::COUNT);
-    walk::attributes(buf, room(buf), count)
+    walk::attributes(buf, lent_buffers::room(buf), count)
 }
 
 // Reads a context.

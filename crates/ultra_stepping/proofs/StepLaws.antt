@@ -7,7 +7,7 @@ use lib.Dec.{leb, eqb}
 use borrow.Author.Tests.{le-leb, lt-leb, eq-eqb, ne-eqb}
 use Rattle.words.specs.Words.{u32At}
 use Rattle.refusals.specs.Answers.{refusal}
-use Rattle.ultra_format.specs.Layouts.{roomOf}
+use Rattle.lent_buffers.specs.Room.{roomOf}
 use Rattle.ultra_format.specs.Decoding.{storedCount}
 use Rattle.refusals.proofs.Chains.{passed}
 use Rattle.ultra_stepping.specs.Checks.{headCheck, boundsCheck}

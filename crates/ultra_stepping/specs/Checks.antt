@@ -7,7 +7,7 @@ use lib.ListN.{getD}
 use lib.Dec.{leb, eqb}
 use Rattle.words.specs.Words.{u32At}
 use Rattle.refusals.specs.Refusals.{unless, SHORT, VERSION, COUNT, MISSING, HEADER, SIZE, OVERRUN, TYPE}
-use Rattle.ultra_format.specs.Layouts.{roomOf}
+use Rattle.lent_buffers.specs.Room.{roomOf}
 use Rattle.ultra_format.specs.Decoding.{storedCount}
 
 -- the head: the first of 1 to 4 that it breaks, or 0, with `fewest` as the lower limit of the count

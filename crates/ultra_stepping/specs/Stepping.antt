@@ -10,7 +10,7 @@ use Rattle.words.specs.Words.{u32At}
 use Rattle.refusals.specs.Refusals.{unless, HEADER}
 use Rattle.refusals.specs.declared.Refusal.{Refusal}
 use Rattle.refusals.specs.Answers.{refusal, refusalAt}
-use Rattle.ultra_format.specs.Layouts.{roomOf}
+use Rattle.lent_buffers.specs.Room.{roomOf}
 use Rattle.ultra_format.specs.Decoding.{pick, storedCount}
 use Rattle.ultra_stepping.specs.Checks.{headCheck, boundsCheck}
 use Rattle.ultra_stepping.specs.declared.cursor.Header.{Header}

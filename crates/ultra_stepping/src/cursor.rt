@@ -33,7 +33,7 @@ fn check(buf: &[u8], offset: u32) -> u16
     if offset % 8 != 0 {
         return refusals::HEADER;
     }
-    crate::bounds::check(buf, crate::head::room(buf), offset as usize)
+    crate::bounds::check(buf, lent_buffers::room(buf), offset as usize)
 }
 
 impl Cursor {

@@ -1,20 +1,12 @@
 // The head: refusals 1 to 4.
 ghost use mathlib.Core.Path.{_≡_};
-ghost use Rattle.ultra_format.specs.Layouts.{roomOf};
 ghost use Rattle.ultra_stepping.specs.Checks.{headCheck};
-
-// Document 01's room: how many bytes of the buffer count.
-pub fn room(buf: &[u8]) -> usize
-    ensures { λ r. ⌜ r ≡ roomOf (now (buf .entry)) ⌝ }
-{
-    if buf.len() < 65536 { buf.len() } else { 65536 }
-}
 
 // The first of 1 to 4 that the head breaks, or 0; `fewest` is the lower limit of the count.
 pub fn check(buf: &[u8], fewest: u32) -> u16
     ensures { λ r. ⌜ r ≡ headCheck fewest (now (buf .entry)) ⌝ }
 {
-    if room(buf) < 8 {
+    if lent_buffers::room(buf) < 8 {
         return refusals::SHORT;
     }
     if buf[0] == 0 {

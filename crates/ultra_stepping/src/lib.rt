@@ -7,6 +7,5 @@ mod walk;
 pub use cursor::Cursor;
 pub use cursor::Header;
 pub use cursor::Step;
-pub use head::room;
 pub use walk::first_of_type;
 pub use walk::start_of;

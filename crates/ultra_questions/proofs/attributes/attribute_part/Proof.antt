@@ -4,7 +4,7 @@ use mathlib.Core.Path.{sym, subst}
 use denote.Ref.{now}
 use lib.ListN.{length}
 use Rattle.ultra_questions.specs.declared.attributes.AttributeAnswer.{AttributeAnswer}
-use Rattle.ultra_questions.specs.Parts.{PartOf}
+use Rattle.lent_buffers.specs.LentParts.{PartOf}
 use Rattle.ultra_questions.proofs.AttributeLaws.{part-inside}
 use borrow.Author.Needs.{needs}
 use Rattle.ultra_questions.proofs.attributes.attribute_part.Statement.{statement}

@@ -6,11 +6,11 @@ use Rattle.ultra_questions.proofs.attributes.unanswered.Tie as tie
 blank-requires : tie.Need-blank-requires
 blank-requires c κs = search needs
 
-none-requires : tie.Need-none-requires
-none-requires c κs = search needs
+no-part-requires : tie.Need-no-part-requires
+no-part-requires c κs = search needs
 
 returns : tie.Need-returns
-returns c = rw (c .before .blank .ensures, c .none .ensures)
+returns c = rw (c .before .blank .ensures, c .no-part .ensures)
 
 pub unanswered-spec : {M : Type 1} → statement M
-unanswered-spec = tie.close (tie.spec blank-requires none-requires returns)
+unanswered-spec = tie.close (tie.spec blank-requires no-part-requires returns)

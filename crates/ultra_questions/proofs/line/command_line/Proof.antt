@@ -3,8 +3,8 @@ use Prim.Native.Nat.{_+_, _≤_}
 use mathlib.Core.Path.{sym, subst}
 use denote.Ref.{now}
 use lib.ListN.{length}
-use Rattle.ultra_questions.specs.declared.part.Part.{Part}
-use Rattle.ultra_questions.specs.Parts.{PartOf}
+use Rattle.lent_buffers.specs.declared.Part.{Part}
+use Rattle.lent_buffers.specs.LentParts.{PartOf}
 use Rattle.ultra_questions.proofs.LineLaws.{line-within}
 use borrow.Author.Needs.{needs}
 use Rattle.ultra_questions.proofs.line.command_line.Statement.{statement}

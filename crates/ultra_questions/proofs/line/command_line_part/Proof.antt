@@ -21,14 +21,14 @@ enum-told c = search needs
 enum-told-2 : tie.Need-enum-told-2
 enum-told-2 c = search needs
 
-none-requires : tie.Need-none-requires
-none-requires c κs = search needs
+no-part-requires : tie.Need-no-part-requires
+no-part-requires c κs = search needs
 
 returns : tie.Need-returns
 returns c =
     let t = c .before in
     let u = t .before .before in
-    c .none .ensures ∙ line-passed (now (u .before .before .args .buf)) (sym (u .used-length .ensures) ∙ t .enum-told2 .given .1)
+    c .no-part .ensures ∙ line-passed (now (u .before .before .args .buf)) (sym (u .used-length .ensures) ∙ t .enum-told2 .given .1)
 
 -- after the `let .. else`, reading has accepted the buffer
 abbrev accepts : (c : tie.After-enum-told) → Accepts (now (c .before .before .before .before .args .buf))
@@ -37,15 +37,15 @@ accepts c = let u = c .before .before in (_, sym (u .used-length .ensures) ∙ c
 first-of-type-requires : tie.Need-first-of-type-requires
 first-of-type-requires c κs = accepts c
 
-none-requires-2 : tie.Need-none-requires-2
-none-requires-2 c κs = search needs
+no-part-requires-2 : tie.Need-no-part-requires-2
+no-part-requires-2 c κs = search needs
 
 returns-2 : tie.Need-returns-2
 returns-2 c =
     let f = c .before .before in
     let a = accepts (f .before) in
     let b = now (f .before .before .before .before .before .args .buf) in
-    c .none2 .ensures ∙ line-found b (a .1) (none-at (ofType 5) b (sym (f .first-of-type .ensures) ∙ c .before .if1 .taken))
+    c .no-part2 .ensures ∙ line-found b (a .1) (none-at (ofType 5) b (sym (f .first-of-type .ensures) ∙ c .before .if1 .taken))
 
 cast-load-u32 : tie.Need-cast-load-u32
 cast-load-u32 c = search needs
@@ -87,10 +87,10 @@ command-line-part-spec =
     used-length-requires
     enum-told
     enum-told-2
-    none-requires
+    no-part-requires
     returns
     first-of-type-requires
-    none-requires-2
+    no-part-requires-2
     returns-2
     cast-load-u32
     add-load-u32

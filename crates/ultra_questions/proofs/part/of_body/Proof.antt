@@ -4,7 +4,7 @@ use mathlib.Core.Path.{ap, _∙_}
 use native.Mathlib.Omega.{arith}
 use denote.Ref.{now}
 use Rattle.ultra_format.proofs.Sizes.{line-least, map-size}
-use Rattle.ultra_questions.specs.Parts.{part}
+use Rattle.lent_buffers.specs.LentParts.{part}
 use Rattle.ultra_questions.proofs.BodyLaws.{map-part, line-part, no-part}
 use borrow.Author.Needs.{needs}
 use Rattle.ultra_questions.proofs.part.of_body.Statement.{statement}
@@ -41,7 +41,7 @@ returns-2 c =
 returns-3 : tie.Need-returns-3
 returns-3 c =
     let s = c .before .before .before .before .args in
-    c .none .ensures ∙ no-part (now (s .buf)) (s .start) (s .size) (s .kind) (c .before .before .if1 .left) (c .before .if2 .left)
+    c .no-part .ensures ∙ no-part (now (s .buf)) (s .start) (s .size) (s .kind) (c .before .before .if1 .left) (c .before .if2 .left)
 
 pub of-body-spec : {M : Type 1} → statement M
 of-body-spec =

@@ -6,7 +6,7 @@ use Rattle.ultra_stepping.specs.Stepping.{cursorCheck, cursorAt}
 use Rattle.ultra_stepping.specs.declared.cursor.Step.the-variants.{Attribute, Refused}
 use native.Mathlib.Omega.{arith}
 use denote.Ref.{now}
-use Rattle.ultra_format.specs.Layouts.{roomOf}
+use Rattle.lent_buffers.specs.Room.{roomOf}
 use Rattle.ultra_stepping.specs.Checks.{headCheck}
 use Rattle.ultra_stepping.proofs.HeadLaws.{head-holds}
 use Rattle.ultra_stepping.proofs.BoundsLaws.{BoundsHold}

@@ -49,7 +49,7 @@ module _ (b d : List ℕ) where
   same-raw o (suc k) [] h = rw (h .0, same-raw (o + 1) k [] (h .1))
   same-raw o (suc k) (x ∷ l) h = rw (h .0, same-raw (o + 1) k l (h .1))
 
-  same-text : (o k : ℕ) → Same o (textCells k (textAt b o k)) → textAt d o k ≡ textAt b o k
+  pub same-text : (o k : ℕ) → Same o (textCells k (textAt b o k)) → textAt d o k ≡ textAt b o k
   unfolding textAt
   same-text o zero h = refl
   same-text o (suc k) h = go (getD b o 0) refl (same-text (o + 1) k) h

@@ -1,12 +1,12 @@
--- `ultra_questions::part::slice` meets its contract.
+-- `lent_buffers::slice` meets its contract.
 use mathlib.Core.Path.{_≡_, refl, ap, _∙_}
 use Prim.Native.Nat.{ℕ, _+_, _-_}
 use native.Mathlib.Omega.{arith}
 use lib.ListN.{take, drop}
 use Rattle.byte_layout.proofs.Copies.{bytes-taken}
 use borrow.Author.Needs.{needs}
-use Rattle.ultra_questions.proofs.part.slice.Statement.{statement}
-use Rattle.ultra_questions.proofs.part.slice.Tie as tie
+use Rattle.lent_buffers.proofs.slice.Statement.{statement}
+use Rattle.lent_buffers.proofs.slice.Tie as tie
 
 cast-start : tie.Need-cast-start
 cast-start c = search needs
