@@ -1,6 +1,6 @@
 -- Fields at places of their own: rows of fields, each with the byte that it starts at. Rows may overlap and share bytes, as strings do that
 -- others point to. Fields has the case of one row from byte 0 on.
--- Serves the library's own functions and proofs: no published contract or promise rests on it.
+-- A reader has to believe this file.
 use Prim.Native.Nat.{ℕ, _+_, _≤_, _<_}
 use mathlib.Core.Path.{_≡_}
 use mathlib.Core.List.{List}

@@ -4,9 +4,9 @@ use mathlib.Core.Path.{_≡_, refl}
 use mathlib.Core.Bool.{Bool, true, false, _&&_}
 use native.Mathlib.Omega.{arith}
 use Rattle.refusals.specs.Refusals.{unless, firstOf}
-use Rattle.refusals.specs.Answers.{refused, orRefused}
+use Rattle.refusals.specs.Answers.{refused, orRefused, andThen}
 use Rattle.refusals.specs.declared.Answer.{Answer}
-use Rattle.refusals.specs.declared.Answer.the-variants.{Done}
+use Rattle.refusals.specs.declared.Answer.the-variants.{Done, Refused}
 
 pub passed : (t : Bool) (n rest : ℕ) → unless t (suc n) rest ≡ 0 → (t ≡ true) × (rest ≡ 0)
 passed true n rest e = (refl, e)
@@ -33,3 +33,7 @@ refuses (suc n) o rest h = refl
 pub not-refused : (n o : ℕ) (rest : Answer) (v : ℕ) → orRefused n o rest ≡ Done v → (n ≡ 0) × (rest ≡ Done v)
 not-refused zero o rest v e = (refl, e)
 not-refused (suc n) o rest v e = absurd (let z : _≡_ {A = ℕ} 0 1 = cc in omega arith)
+
+pub both-done : (a rest : Answer) (v : ℕ) → andThen a rest ≡ Done v → ((w : ℕ) × (a ≡ Done w)) × (rest ≡ Done v)
+both-done (Done w) rest v e = ((w, refl), e)
+both-done (Refused r) rest v e = absurd (let z : _≡_ {A = ℕ} 0 1 = cc in omega arith)

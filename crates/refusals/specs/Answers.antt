@@ -9,7 +9,7 @@ use Rattle.refusals.specs.declared.Answer.the-variants.{Done, Refused}
 abbrev pub refusal : ℕ → ℕ → Refusal
 refusal n o = record { number = n; offset = o }
 
--- of the attribute at the index `i`: the index is not carried (document 02, R-10, asks for it)
+-- of the attribute, or the record of a payload, at the index `i`: the index is not carried (document 02, R-10, asks for it)
 abbrev pub refusalAt : ℕ → ℕ → ℕ → Refusal
 refusalAt n i o = refusal n o
 
@@ -30,10 +30,15 @@ abbrev pub refusedUnless : ℕ → Refusal → Answer → Answer
 refusedUnless zero r rest = rest
 refusedUnless (suc n) r rest = Refused r
 
--- that belongs to no attribute, with the number `n` at `o`
+-- that belongs to no attribute and no record, with the number `n` at `o`
 abbrev pub orRefused : ℕ → ℕ → Answer → Answer
 orRefused n o rest = refusedUnless n (refusal n o) rest
 
--- of the attribute at the index `i`
+-- of the attribute or record at the index `i`
 abbrev pub orRefusedAt : ℕ → ℕ → ℕ → Answer → Answer
 orRefusedAt n i o rest = refusedUnless n (refusalAt n i o) rest
+
+-- a refusal, or what the rest answers
+abbrev pub andThen : Answer → Answer → Answer
+andThen (Done v) rest = rest
+andThen (Refused r) rest = Refused r

@@ -3,7 +3,7 @@
 use Prim.Native.Nat.{ℕ, zero, suc}
 use mathlib.Core.Bool.{Bool, true, false}
 
--- "room below 8"
+-- "room below 8"; R-2: "room below 16"
 abbrev pub SHORT : ℕ
 SHORT = 1
 
@@ -11,7 +11,7 @@ SHORT = 1
 abbrev pub VERSION : ℕ
 VERSION = 2
 
--- "count above 1,024; an index asked for at or past the count"
+-- "count above 1,024; an index asked for at or past the count"; R-2: "a count of 0 or above 1,024"
 abbrev pub COUNT : ℕ
 COUNT = 3
 
@@ -59,7 +59,7 @@ VALUE = 13
 abbrev pub TEXT : ℕ
 TEXT = 14
 
--- "ranges: .." (ultra_format, Members, ranges)
+-- "ranges: .." (ultra_format, Members, ranges); R-2: "no record's range passes 2^64"
 abbrev pub RANGE : ℕ
 RANGE = 15
 
@@ -71,7 +71,7 @@ ORDER = 16
 abbrev pub FULL : ℕ
 FULL = 17
 
--- "new attribute would end past the room, or a lent output is too short"
+-- "new attribute would end past the room, or a lent output is too short"; of R-2, a payload that would
 abbrev pub ROOM : ℕ
 ROOM = 18
 
@@ -79,6 +79,24 @@ ROOM = 18
 abbrev pub ABSENT : ℕ
 ABSENT = 19
 
+-- ---- document 02, R-2: "New numbers, here and later, join document 01's table."
+-- "the magic"
+abbrev pub MAGIC : ℕ
+MAGIC = 20
+
+-- "size is below 16 + 32 × count or above the room"
+abbrev pub PAYLOAD : ℕ
+PAYLOAD = 21
+
+-- "a string"
+abbrev pub STRING : ℕ
+STRING = 22
+
+-- "a misplaced or missing end"
+abbrev pub END : ℕ
+END = 23
+
+-- ---- chains
 -- A chain of tests answers the number of the first that fails, and 0 where none does.
 
 -- `n` unless the test holds; then what the rest answers

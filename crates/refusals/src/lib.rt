@@ -41,6 +41,15 @@ pub const ROOM: u16 = 18;
 
 pub const ABSENT: u16 = 19;
 
+// Document 02, R-2.
+pub const MAGIC: u16 = 20;
+
+pub const PAYLOAD: u16 = 21;
+
+pub const STRING: u16 = 22;
+
+pub const END: u16 = 23;
+
 // Why a call was refused: the number, and the offset that goes with it.
 pub struct Refusal {
     pub number: u16,
@@ -48,14 +57,14 @@ pub struct Refusal {
 }
 
 impl Refusal {
-    // A refusal that belongs to no attribute. Every refusal is made here or by `at`.
+    // A refusal that belongs to no attribute and no record. Every refusal is made here or by `at`.
     pub fn new(number: u16, offset: u32) -> Self
         ensures { λ r. ⌜ r ≡ refusal number offset ⌝ }
     {
         Self { number, offset }
     }
 
-    // A refusal of the attribute at `index`, which it does not carry: document 02, R-10, asks for that.
+    // A refusal of the attribute or record at `index`, which it does not carry: document 02, R-10, asks for that.
     pub fn at(number: u16, index: u32, offset: u32) -> Self
         ensures { λ r. ⌜ r ≡ refusalAt number index offset ⌝ }
     {

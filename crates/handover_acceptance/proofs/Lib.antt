@@ -1,0 +1,7 @@
+pub mod TestLaws
+pub mod PayloadAcceptance
+pub mod FirstBreak
+pub mod Conditions
+pub mod PayloadRefusals
+pub mod Witness
+pub mod PayloadUnread

@@ -1,0 +1,4 @@
+pub mod PayloadRefusals
+pub mod PayloadAcceptance
+pub mod Witness
+pub mod PayloadUnread

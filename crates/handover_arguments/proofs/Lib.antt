@@ -1,0 +1,4 @@
+pub mod EveryLaws
+pub mod GivenLaws
+pub mod MeasureLaws
+pub mod JudgeLaws

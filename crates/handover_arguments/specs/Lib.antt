@@ -1,0 +1,3 @@
+pub mod PayloadGiven
+pub mod Judging
+pub mod Measures

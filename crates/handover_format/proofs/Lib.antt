@@ -1,0 +1,4 @@
+pub mod PayloadRows
+pub mod PayloadDecoded
+pub mod Silence
+pub mod WrittenLaws

@@ -1,0 +1,9 @@
+pub mod Placing
+pub mod InTurn
+pub mod WritingRefusals
+pub mod SoundGiven
+pub mod WritesBack
+pub mod RecordsRead
+pub mod Reread
+pub mod WritesAgain
+pub mod Witness
