@@ -104,8 +104,8 @@ format:
 	rt fmt
 
 # What no proof replaces: the archive and the programs, tested. The gate runs it after the proofs.
-tests: tools-there test-make test-published test-readme test-format test-traceability test-wrong-programs test-list test-samples \
-	test-driver test-c test-examples test-model compare compare-listings
+tests: tools-there test-make test-published test-readme test-format test-handover test-traceability test-wrong-programs test-list test-samples \
+	test-payload-samples test-driver test-c test-examples test-model compare compare-listings
 	@echo 'tests: all passed'
 
 # The targets themselves: what they say where a tool is missing or rt fails.

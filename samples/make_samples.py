@@ -19,7 +19,7 @@ PAGE = 4096
 JUNK = b"\xa5"
 LARGEST = 1500
 # What a folder has besides the samples.
-OTHERS = {"make_samples.py", "README.md"}
+OTHERS = {"make_samples.py", "README.md", "payloads"}
 
 DISK_GUID = bytes.fromhex("A0A1A2A3A4A5A6A7A8A9AAABACADAEAF")
 PARTITION_GUID = bytes.fromhex("F0E1D2C3B4A5968778695A4B3C2D1E0F")

@@ -16,7 +16,7 @@ ROOT = pathlib.Path(__file__).resolve().parent.parent
 STACK = ROOT / "tests/stack.py"
 FUNCTION = re.compile(r'^ *(?:pub )?(?:extern "C" )?fn ', re.MULTILINE)
 # Crates that are no part of the library or its promises: they run it.
-RUNS = ("cases_", "call_", "framed_calls", "example_")
+RUNS = ("cases_", "call_", "framed_", "example_")
 
 
 def files(folders, *patterns):

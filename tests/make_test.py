@@ -143,6 +143,7 @@ class Missing(MakeTest):
         self.rt_that(PASSES)
         for target, name in (("compare-archive", "cargo"), ("compare-driven", "cargo"), ("compare-listings", "cargo"), ("bench", "valgrind"),
                              ("test-edges", "cc"), ("test-examples", "cc"), ("test-samples", "python3"), ("test-driver", "python3"),
+                             ("test-payload-samples", "python3"),
                              ("test-stack", "objdump"), ("fuzz", "nm"), ("fuzz", "python3"), ("fuzz FUZZ_CC=none", "clang")):
             with self.subTest(target):
                 self.without(name)
@@ -301,7 +302,7 @@ class Figures(MakeTest):
     def test_without_an_archive(self):
         found = self.figures()
         self.assertEqual((len(found), found["crates"]), (10, ("1", "folders of crates/")))
-        self.assertEqual(found["lines of programs that run it"], ("0", "src/ of cases_*, call_*, framed_calls, example_*"))
+        self.assertEqual(found["lines of programs that run it"], ("0", "src/ of cases_*, call_*, framed_*, example_*"))
         self.assertEqual(found["bytes of libultra.a"], ("-", "not made yet: make archive"))
         code = (self.copy / "crates/words/src").rglob("*.rt")
         self.assertEqual(found["lines of code"][0], str(sum(len(file.read_text(encoding="utf-8").splitlines()) for file in code)))

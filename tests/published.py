@@ -3,7 +3,7 @@
 
 usage: published.py [ROOT]     ROOT is the repository's folder
 
-Published are the calls of the tables below "Calls from C" and "Calls from Rattle" in docs/CALLS.md. What is held of each:
+Published are the calls of the tables below "Calls from C", "Calls from Rattle" and "Calls on Handover payloads" in docs/CALLS.md. What is held of each:
 
     requires    It has none: "no call relies on a check made before it" (demand 1).
     ensures     It has one, an equation of all that it answers and writes with a term E: `r ≡ E`; `(r, now (P .exit)) ≡ E` where P is lent
@@ -15,7 +15,12 @@ Published are the calls of the tables below "Calls from C" and "Calls from Rattl
 Demand 2 runs a call that writes by the equation of `runWrite` (crates/demand_2/specs/Calls.antt) for the case of `Write` whose comment names
 it, a question by that of `replyOf` for the case of `Question`, and a call toward C by that of `runWriteFromC` or `replyFromC` (CallsFromC.antt)
 for the case of `WriteFromC` or `QuestionFromC` with its name. `run` and `runFromC` are these, and leave the buffer of a question as it is.
-Every case stands for published calls, and one case for every published call but `Cursor::first`, which takes no buffer. Every exported function
+Every case stands for published calls, and one case for every published call but `Cursor::first`, which takes no buffer.
+
+The calls of the table "Calls on Handover payloads" do not join demand 2, which speaks of contexts. Of each, E is one definition of all its
+parameters in their order, and where it hands back a slice the contract is `DHandedBack r (buf .entry) ..`, of the other parameters in their
+order; the definition is one that PROMISES_ON_PAYLOADS speak of, and the first that its row names.
+ Every exported function
 of crate ultra is published, and so is every public function of a crate that a published call's path names, but for those of INNER.
 Exit status 1, with a line for each problem.
 """
@@ -29,9 +34,11 @@ CALLS, CALLS_FROM_C = "crates/demand_2/specs/Calls.antt", "crates/demand_2/specs
 ADDITIONS = "crates/ultra_format/specs/Additions.antt"
 # The call that no case stands for: its term, and where the names in it come from.
 WITHOUT_BUFFER = {"Cursor::first": ("cursorAt 0 8", {"cursorAt": "Rattle.ultra_stepping.specs.Stepping.cursorAt"})}
-RELATIONS = {"≡": ("_≡_", "mathlib.Core.Path._≡_"), "PartOf": ("PartOf", "Rattle.ultra_questions.specs.Parts.PartOf")}
+# Where the promises on payloads are stated.
+PROMISES_ON_PAYLOADS = ("crates/handover_demand_3/specs/PayloadDemand3.antt", "crates/handover_written/specs/WritesBack.antt")
+RELATIONS = {"≡": ("_≡_", "mathlib.Core.Path._≡_"), "PartOf": ("PartOf", "Rattle.lent_buffers.specs.LentParts.PartOf")}
 # Public functions, of crates that publish calls, that only this repository calls.
-INNER = {"ultra_reading::next_place_check", "ultra_reading::room", "ultra_reading::used_length"}
+INNER = {"ultra_reading::next_place_check", "ultra_reading::used_length"}
 # What stands around the definition that the page names.
 AROUND = {"answerCrossed", "stepCrossed", "readingCrossed", "partCrossed", "crossed", "length"}
 # What the cases of each kind are run by.
@@ -188,13 +195,17 @@ def rows(page, title):
     return found
 
 
-def calls_from_rattle(page, root):
+def calls_from_rattle(page, root, title="Calls from Rattle"):
     file = root
-    for names, source, *cells in rows(page, "Calls from Rattle"):
+    for names, source, *cells in rows(page, title):
         if source != "the same":
             crate, _, path = source.partition(", ")
             file = root / "crates" / crate / path
         yield from (Call(path, file, cells[-1]) for path in listed(names))
+
+
+def calls_on_payloads(page, root):
+    return calls_from_rattle(page, root, "Calls on Handover payloads")
 
 
 def exported(root):
@@ -463,6 +474,34 @@ def call_problems(call, stands, replies):
         return [str(problem)]
 
 
+def promised(root):
+    """The whole name of each definition that a promise on payloads speaks of."""
+    return {origin for path in PROMISES_ON_PAYLOADS for origin in spec_of(root, path).imports.values()}
+
+
+def handed_back(function):
+    """What the contract of a call that hands a slice back says, or None: (the definition, its contract as it has to be)."""
+    said = stated(function)
+    if not (isinstance(said, tuple) and isinstance(said[0], str) and said[0].endswith("HandedBack")):
+        return None
+    return Held("part", said, function.imports), (said[0], "r", ("buf", ".entry"), *(name for name in function.parameters if name != "buf"))
+
+
+def payload_problems(call, definitions_promised):
+    try:
+        function = function_of(call)
+        handed = handed_back(function)
+        found = handed[0] if handed else contract(function)
+        definition = headed(found.term)
+        expected = handed[1] if handed else (definition, *(f"«{name}»" for name in function.parameters))
+        if found.term != expected:
+            return [f"contract has `{shown(found.term)}`, expected `{shown(expected)}`"]
+        told = [] if whole_name(definition, found.imports) in definitions_promised else [f"no promise on payloads speaks of `{definition}`"]
+        return row_differences(call, found) + told
+    except Unreadable as problem:
+        return [str(problem)]
+
+
 def case_problems(stands, paths):
     """Cases that stand for no published call, and equations that are for no case."""
     for case in stands:
@@ -511,7 +550,7 @@ def unpublished_problems(root, paths):
     yield from (f"{path}: in INNER of published.py, expected a public function" for path in sorted(INNER - set(public)) if path.split("::")[0] in crates)
 
 
-def all_problems(root, calls):
+def all_problems(root, calls, on_payloads):
     spec, spec_from_c = spec_of(root, CALLS), spec_of(root, CALLS_FROM_C)
     stands = []
     for data, runner in {**WRITERS, **ASKERS}.items():
@@ -523,7 +562,10 @@ def all_problems(root, calls):
     for call in calls:
         for told in call_problems(call, [case for case in stands if call.path in case.calls], replies):
             yield f"{call.path}, {call.file.relative_to(root)}: {told}"
-    paths = [call.path for call in calls]
+    of_promises = promised(root)
+    for call in on_payloads:
+        yield from (f"{call.path}, {call.file.relative_to(root)}: {told}" for told in payload_problems(call, of_promises))
+    paths = [call.path for call in [*calls, *on_payloads]]
     yield from (f"{path}: in {PAGE} {paths.count(path)} times, expected once" for path in sorted(set(paths)) if paths.count(path) > 1)
     yield from case_problems(stands, paths)
     yield from handing_problems(spec, spec_from_c)
@@ -533,15 +575,16 @@ def all_problems(root, calls):
 
 
 def published(root):
+    """(the calls on contexts, the calls on payloads)"""
     page = read(root / PAGE)
-    return [*calls_from_c(page, root), *calls_from_rattle(page, root)]
+    return [*calls_from_c(page, root), *calls_from_rattle(page, root)], [*calls_on_payloads(page, root)]
 
 
 def problems(root):
     """A line for each problem."""
     found = []
     try:
-        for problem in all_problems(root, published(root)):
+        for problem in all_problems(root, *published(root)):
             found.append(problem)
     except Unreadable as problem:
         found.append(str(problem))
@@ -551,7 +594,7 @@ def problems(root):
 def main(arguments):
     root = pathlib.Path(arguments[0] if arguments else ".")
     found = problems(root)
-    print("\n".join(found) or f"published: {len(published(root))} calls, each an equation with the definition that {PAGE} and demand 2 name")
+    print("\n".join(found) or f"published: {sum(map(len, published(root)))} calls, each an equation with the definition that {PAGE} and a promise name")
     return 1 if found else 0
 
 

@@ -25,6 +25,8 @@ ADDING = "crates/adding/src/lib.rt"
 MEMBERS = "crates/adding/src/members.rt"
 ASKING = "crates/asking/src/lib.rt"
 CURSOR = "crates/asking/src/cursor.rt"
+PAYING = "crates/paying/src/lib.rt"
+READS, WRITES = published.PROMISES_ON_PAYLOADS
 
 FILES = {
     PAGE: """# Library
@@ -48,6 +50,13 @@ FILES = {
 | `asking::copy(buf, out: &mut [u8]) -> Answer` | asking, src/lib.rt | `copiedTo`, with the output |
 | `asking::part(buf, index) -> &[u8]` | the same | the part that `looked` names (`PartOf`) |
 | `asking::size(buf) -> u32` | the same | the length of `listing` |
+
+### Calls on Handover payloads
+
+| Call | Source | Its answer is |
+|---|---|---|
+| `paying::named(buf, index) -> &[u8]` | paying, src/lib.rt | `NameHandedBack`: the part that `recordOf` names |
+| `paying::write(buf, run) -> Answer` | the same | `payloadOf`, with the buffer |
 
 ## More
 """,
@@ -242,7 +251,7 @@ pub fn add_line(buf: &mut [u8], text: &[u8]) -> Answer
 
 ghost use mathlib.Core.Path.{_≡_};
 ghost use lib.ListN.{length};
-ghost use Rattle.ultra_questions.specs.Parts.{PartOf};
+ghost use Rattle.lent_buffers.specs.LentParts.{PartOf};
 ghost use Rattle.asking.specs.Asking.{copiedTo, looked, listing};
 pub use cursor::Cursor;
 
@@ -262,6 +271,23 @@ pub fn size(buf: &[u8]) -> u32
     ensures { λ r. ⌜ r ≡ length (listing (now (buf .entry))) ⌝ }
 {
     0
+}
+""",
+    READS: "use Rattle.paying.specs.Paying.{NameHandedBack}\n",
+    WRITES: "use Rattle.paying.specs.Paying.{payloadOf}\n",
+    PAYING: """ghost use mathlib.Core.Path.{_≡_};
+ghost use Rattle.paying.specs.Paying.{payloadOf, other, NameHandedBack, MetaHandedBack};
+
+pub fn named(buf: &[u8], index: u64) -> &[u8]
+    ensures { λ r. ⌜ NameHandedBack r (buf .entry) index ⌝ }
+{
+    buf
+}
+
+pub fn write(buf: &mut [u8], run: &[u8]) -> Answer
+    ensures { λ r. ⌜ (r, now (buf .exit)) ≡ payloadOf (now (buf .entry)) (now (run .entry)) ⌝ }
+{
+    Answer::Done(0)
 }
 """,
     CURSOR: """ghost use mathlib.Core.Path.{_≡_};
@@ -533,6 +559,30 @@ class Demand2(Case):
         self.told(f"Cursor::step, {CURSOR}: 2 parameters beside buf, expected 1 as in `step`, {CALLS}")
 
 
+class Payloads(Case):
+    def test_a_requires(self):
+        self.change(PAYING, "-> Answer\n", "-> Answer\n    requires { ⌜ run ⌝ }\n")
+        self.told(f"paying::write, {PAYING}: has `requires`, `ensures`, expected one `ensures` and no `requires`")
+
+    def test_parameters_left_out_or_exchanged(self):
+        self.change(PAYING, "≡ payloadOf (now (buf .entry)) (now (run .entry))", "≡ payloadOf (now (run .entry)) (now (buf .entry))")
+        self.told(f"paying::write, {PAYING}: contract has `payloadOf run buf`, expected `payloadOf buf run`")
+        self.change(PAYING, "NameHandedBack r (buf .entry) index", "NameHandedBack r (buf .entry)")
+        self.told(f"paying::named, {PAYING}: contract has `NameHandedBack r (buf .entry)`, expected `NameHandedBack r (buf .entry) index`")
+
+    def test_a_definition_that_no_promise_speaks_of(self):
+        self.change(PAYING, "≡ payloadOf (now", "≡ other (now")
+        self.told(f"paying::write, {PAYING}: docs/CALLS.md names `payloadOf` first, expected `other`",
+                  f"paying::write, {PAYING}: no promise on payloads speaks of `other`")
+        self.change(READS, "Rattle.paying", "Rattle.elsewhere")
+        self.told(f"paying::named, {PAYING}: no promise on payloads speaks of `NameHandedBack`")
+
+    def test_another_part(self):
+        self.change(PAYING, "NameHandedBack r (buf .entry) index", "MetaHandedBack r (buf .entry) index")
+        self.told(f"paying::named, {PAYING}: docs/CALLS.md names `NameHandedBack` first, expected `MetaHandedBack`",
+                  f"paying::named, {PAYING}: no promise on payloads speaks of `MetaHandedBack`")
+
+
 class Page(Case):
     def test_another_definition(self):
         self.change(PAGE, "| `stepOf` |", "| `lookOf` |")
@@ -572,7 +622,7 @@ class Main(Case):
         return status, said.getvalue()
 
     def test_status(self):
-        line = "published: 12 calls, each an equation with the definition that docs/CALLS.md and demand 2 name\n"
+        line = "published: 14 calls, each an equation with the definition that docs/CALLS.md and a promise name\n"
         self.assertEqual(self.run_main(), (0, line))
         self.change(CURSOR, "cursorAt 0 8", "cursorAt 1 8")
         self.assertEqual(self.run_main()[0], 1)

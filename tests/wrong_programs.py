@@ -105,6 +105,20 @@ SECTIONS = [
         ],
     ),
     (
+        "Handover payloads",
+        "Request R-2. The format is crates/handover_format/specs; `PayloadDemand3` is in crates/handover_demand_3/specs.",
+        [
+            "`handover_reading::read`",
+            "`agent`, `record_at`",
+            "`agent_name`, `record_name`, `record_meta`",
+            "`write`",
+            "the format of a payload",
+            "what reading a payload refuses",
+            "demand 3 over payloads",
+            "what is written reads back",
+        ],
+    ),
+    (
         "What calls that change a context will rest on",
         "No call edits a context yet. Crate byte_moves, the statements of crate ultra_edits, and byte_layout's of fields at places of\n"
         "their own are ready for them.",

@@ -119,6 +119,19 @@ pub fn string(frame: &[u8], index: u32) -> &[u8] {
     &frame[start..end]
 }
 
+// Takes a number out of each 8 bytes, as many as there are whole and as `numbers` holds; answers how many.
+pub fn load_numbers(bytes: &[u8], numbers: &mut [u64]) -> usize
+    ensures { λ r. ⌜ r ≤ length (now (numbers .exit)) ⌝ }
+{
+    let n = crate::least(bytes.len() / 8, numbers.len());
+    let mut i = 0;
+    while i < n {
+        numbers[i] = words::load_u64(bytes, 8 * i);
+        i += 1;
+    }
+    n
+}
+
 // Whether the frame has that many numbers and strings, and nothing else.
 pub fn well_formed(frame: &[u8], numbers: u32, strings: u32) -> bool {
     if word(frame, NUMBERS) != numbers {

@@ -1,6 +1,6 @@
 // Beginning, and the adds of records.
-use crate::answers;
 use crate::given;
+use call_frames::answers;
 use call_frames::frame;
 use refusals::Answer;
 use ultra_format::FramebufferRecord;
@@ -72,7 +72,7 @@ fn framebuffer(frame: &[u8]) -> FramebufferRecord {
 }
 
 fn add_map(frame: &[u8], buf: &mut [u8], numbers: &mut [u64]) -> Answer {
-    let n = given::load_numbers(frame::string(frame, 1), numbers);
+    let n = frame::load_numbers(frame::string(frame, 1), numbers);
     ultra_building::add_map(buf, &numbers[0..n])
 }
 

@@ -1,6 +1,6 @@
 // The answer of `attribute`: its numbers, then the buffer and the texts and GUIDs of a record of each type.
 ghost use Prim.Native.Nat.{_≤_};
-use crate::answers;
+use call_frames::answers;
 use call_frames::reply;
 use ultra_format::FramebufferRecord;
 use ultra_format::KernelRecord;

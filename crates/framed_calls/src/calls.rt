@@ -14,8 +14,8 @@ const NONE: u32 = 4294967295;
 // How many numbers a call takes.
 fn numbers_of(call: u32) -> u32 {
     match call {
-        1 | 2 | 7..=10 | 12 | 15 | 17 | 21 | 23..=25 => 0,
-        4..=6 | 11 => 1,
+        1 | 2 | 7..=10 | 12 | 15 | 17 | 21 | 23..=28 | 32 => 0,
+        4..=6 | 11 | 29..=31 => 1,
         3 => 2,
         16 | 22 => 3,
         14 | 18 | 20 => 6,
@@ -28,9 +28,9 @@ fn numbers_of(call: u32) -> u32 {
 fn strings_of(call: u32) -> u32 {
     match call {
         2 => 0,
-        1 | 3..=6 | 9..=12 | 18 | 24 => 1,
+        1 | 3..=6 | 9..=12 | 18 | 24 | 26..=31 => 1,
         7 | 8 | 13 | 15..=17 | 19 | 21..=23 | 25 => 2,
-        14 | 20 => 4,
+        14 | 20 | 32 => 4,
         _ => NONE,
     }
 }
@@ -42,11 +42,18 @@ fn call_of(frame: &[u8]) -> u32 {
     words::load_u32(frame, 0)
 }
 
+// How many numbers of 8 bytes the string at `index` has whole.
+fn numbers_in(frame: &[u8], index: u32) -> usize {
+    let given = frame::string(frame, index);
+    given.len() / 8
+}
+
 // Whether a string of numbers or of modules has no more than there may be.
-fn fits(call: u32, given: &[u8], numbers: usize) -> bool {
+fn fits(call: u32, frame: &[u8], numbers: usize) -> bool {
     match call {
-        7 | 15 => given.len() / 8 <= numbers,
-        25 => modules::count(given) <= modules::MOST,
+        7 | 15 => numbers_in(frame, 1) <= numbers,
+        25 => modules::count(frame::string(frame, 1)) <= modules::MOST,
+        32 => numbers_in(frame, 2) <= numbers,
         _ => true,
     }
 }
@@ -61,7 +68,7 @@ pub fn suits(frame: &[u8], bytes: usize, numbers: usize) -> bool {
     if bytes < buffer.len() {
         return false;
     }
-    fits(call, frame::string(frame, 1), numbers)
+    fits(call, frame, numbers)
 }
 
 // Puts the buffer that the frame gives in place, and answers how long it is; where it gives none, the one that is there stays.
@@ -69,7 +76,7 @@ pub fn load(frame: &[u8], buffer: &mut [u8], held: usize) -> usize
     ensures { λ r. ⌜ r ≤ length (now (buffer .exit)) ⌝ }
 {
     if strings_of(call_of(frame)) == 0 || frame::is_kept(frame) {
-        return given::least(held, buffer.len());
+        return call_frames::least(held, buffer.len());
     }
     given::fill(buffer, frame::string(frame, 0))
 }
@@ -84,6 +91,7 @@ pub fn make(frame: &mut [u8], buf: &mut [u8], numbers: &mut [u64], out: &mut [u8
         13..=18 => crate::adds::make(call, frame, buf, numbers, out),
         19..=22 => crate::members::make(call, frame, buf, out),
         25 => modules::make(frame, buf, out),
+        26..=32 => framed_payloads::make(call, frame, buf, numbers, out),
         _ => crate::questions::make(call, frame, buf, out),
     }
 }

@@ -31,31 +31,12 @@ pub fn narrow(present: bool, number: u8) -> OptionalU8 {
     OptionalU8::Absent
 }
 
-pub fn least(a: usize, b: usize) -> usize
-    ensures { λ r. ⌜ (r ≤ a) × (r ≤ b) ⌝ }
-{
-    if a < b { a } else { b }
-}
-
 // Puts as many of the bytes to the front of `out` as it holds, and answers how many.
 pub fn fill(out: &mut [u8], bytes: &[u8]) -> usize
     ensures { λ r. ⌜ r ≤ length (now (out .exit)) ⌝ }
 {
-    let n = least(out.len(), bytes.len());
+    let n = call_frames::least(out.len(), bytes.len());
     byte_layout::copy(bytes, 0, n, out);
-    n
-}
-
-// Takes a number out of each 8 bytes, as many as there are whole and as `numbers` holds; answers how many.
-pub fn load_numbers(bytes: &[u8], numbers: &mut [u64]) -> usize
-    ensures { λ r. ⌜ r ≤ length (now (numbers .exit)) ⌝ }
-{
-    let n = least(bytes.len() / 8, numbers.len());
-    let mut i = 0;
-    while i < n {
-        numbers[i] = words::load_u64(bytes, 8 * i);
-        i += 1;
-    }
     n
 }
 

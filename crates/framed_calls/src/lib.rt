@@ -1,6 +1,6 @@
-// The published calls, each made with what a frame gives and answered by a frame. crates/call_driver/README.md has the table of them.
+// The published calls, each made with what a frame gives and answered by a frame; those of Handover payloads are framed_payloads'.
+// crates/call_driver/README.md has the table of them.
 mod adds;
-mod answers;
 mod attribute;
 mod calls;
 mod given;

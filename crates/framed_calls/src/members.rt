@@ -1,6 +1,6 @@
 // The adds of members given one by one.
-use crate::answers;
 use crate::given;
+use call_frames::answers;
 use call_frames::frame;
 use refusals::Answer;
 use ultra_building::members;

@@ -1,7 +1,7 @@
 // Several modules in one call: their records lie one after the other in a string.
 ghost use Prim.Native.Nat.{_≤_};
-use crate::answers;
 use crate::given;
+use call_frames::answers;
 use call_frames::frame;
 use ultra_format::ModuleRecord;
 
@@ -58,7 +58,7 @@ pub fn count(bytes: &[u8]) -> usize {
 pub fn make(frame: &[u8], buf: &mut [u8], out: &mut [u8]) -> u32 {
     let bytes = frame::string(frame, 1);
     let modules = modules_in(bytes);
-    let n = given::least(count(bytes), MOST);
+    let n = call_frames::least(count(bytes), MOST);
     let added = lent_modules::add_first(buf, modules, n);
     let answer = added.answer;
     answers::numbers(

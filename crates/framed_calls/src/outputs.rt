@@ -1,13 +1,12 @@
 // The calls that are lent an output besides the buffer. The output lies where the frame gives it, which is its end.
-use crate::answers;
-use crate::given;
+use call_frames::answers;
 use call_frames::frame;
 use call_frames::reply;
 use refusals::Answer;
 
 // Makes call 7, whose output is numbers.
 pub fn copy_map(frame: &[u8], buf: &[u8], numbers: &mut [u64], out: &mut [u8]) -> u32 {
-    let n = given::load_numbers(frame::string(frame, 1), numbers);
+    let n = frame::load_numbers(frame::string(frame, 1), numbers);
     let answer = ultra_questions::copy_map(buf, &mut numbers[0..n]);
     let at = answers::begin_plain(out, 7, answer, 2, buf);
     reply::numbers_string(out, at, &numbers[0..n])

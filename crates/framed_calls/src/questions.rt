@@ -1,5 +1,5 @@
 // The calls that change nothing, and hand back numbers or a part of the buffer.
-use crate::answers;
+use call_frames::answers;
 use call_frames::frame;
 use call_frames::reply;
 use ultra_reading::Cursor;
@@ -75,25 +75,13 @@ fn attribute_part(index: u64, buf: &[u8], out: &mut [u8]) -> u32 {
     let answer = ultra_questions::attribute(buf, index);
     let part = answer.part;
     let bytes = ultra_questions::attribute_part(buf, index);
-    answers::string(
-        out,
-        6,
-        &[0, 0, part.start as u64, part.length as u64],
-        buf,
-        bytes,
-    )
+    answers::part(out, 6, part.start, part.length, buf, bytes)
 }
 
 fn command_line(buf: &[u8], out: &mut [u8]) -> u32 {
     let part = ultra_questions::command_line_part(buf);
     let text = ultra_questions::command_line(buf);
-    answers::string(
-        out,
-        9,
-        &[0, 0, part.start as u64, part.length as u64],
-        buf,
-        text,
-    )
+    answers::part(out, 9, part.start, part.length, buf, text)
 }
 
 fn command_line_part(buf: &[u8], out: &mut [u8]) -> u32 {

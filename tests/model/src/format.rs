@@ -54,6 +54,11 @@ pub enum Number {
     Full,
     Room,
     Absent,
+    // "New numbers .. join document 01's table": those of request R-2.
+    Magic,
+    Payload,
+    String,
+    End,
 }
 
 /// "Otherwise a number and an offset; the buffer and all lent memory are unchanged."

@@ -7,7 +7,8 @@
 //! [`questions`] and [`building`]. [`mod@listing`] is what the listing program
 //! prints, and [`driving`] has the published calls of Rattle, as the driver program makes
 //! them. [`generator`] makes the inputs of the programs that compare, and [`mod@tally`] counts
-//! what they met. [`requests`] has a place for each change request.
+//! what they met. [`requests`] has a place for each change request; the Handover payload is all
+//! there ([`requests::handover`]).
 
 #![forbid(unsafe_code)]
 

@@ -3,8 +3,8 @@
 
 use crate::generator::inputs::Kind;
 
-/// 0 and the refusals 1 to 19.
-pub const NUMBERS: usize = 20;
+/// 0 and the refusals 1 to 23.
+pub const NUMBERS: usize = 24;
 
 /// A call: the numbers it can give, and those it can give for the record given, its buffer
 /// being accepted. Both are sets, one bit a number.

@@ -156,6 +156,13 @@ fn memory_is_so_long() {
     for call in [COPY_MAP_BYTES, MEMBERS_ADD_MAP, ADD_COMMAND_LINE, LIST] {
         assert!(!is_malformed(&frame(call, &[], &[b"", &zeros])));
     }
+    // Of what is written the parts alone have a limit.
+    for (length, too_long) in [(72_007, false), (72_008, true)] {
+        let parts = frame(HANDOVER_WRITE, &[], &[b"", b"", &zeros[..length], b""]);
+        assert_eq!(is_malformed(&parts), too_long, "{length} bytes");
+    }
+    let long = frame(HANDOVER_WRITE, &[], &[b"", &zeros, b"", &zeros]);
+    assert!(!is_malformed(&long));
 }
 
 #[test]
@@ -423,4 +430,100 @@ fn sixteen_modules_are_added_and_seventeen_are_none() {
         assert_eq!(driver.answer(&frame).call, MALFORMED);
         assert_eq!(driver.buffer, before);
     }
+}
+
+/// A file with the name "k" and the meta "", and the end; the agent is "ab".
+#[rustfmt::skip]
+const PAYLOAD: [u8; 86] = [
+    0x01, 0xb0, 0x01, 0xc0, 0, 0, 0, 0, 86, 0, 0, 0, 2, 0, 0, 0,
+    0x3b, 0x6d, 0xc3, 0xcb, 5, 0, 0, 0, 0, 0x10, 0, 0, 0, 0, 0, 0,
+    9, 0, 0, 0, 0, 0, 0, 0x80, 3, 0, 0, 0, 5, 0, 0, 0,
+    0xff, 0xff, 0xff, 0xff, 0, 0, 0, 0, 0, 0, 0, 0, 0, 0, 0, 0,
+    0, 0, 0, 0, 0, 0, 0, 0, 0, 0, 0, 0, 0, 0, 0, 0,
+    b'a', b'b', 0, b'k', 0, 0,
+];
+const FILE: u64 = 0xcbc3_6d3b;
+const END: u64 = 0xffff_ffff;
+
+#[test]
+fn a_payload_is_answered() {
+    let ask = |call, numbers: &[u64]| {
+        let answer = answer(call, numbers, &[&PAYLOAD]);
+        assert_eq!((answer.call, answer.lent), (call, true));
+        (answer.numbers, answer.strings)
+    };
+    let none: Vec<Vec<u8>> = vec![];
+    assert_eq!(ask(HANDOVER_READ, &[]), (vec![0, 86], none.clone()));
+    assert_eq!(ask(AGENT, &[]), (vec![0, 86, 0, 80, 2], none.clone()));
+    let string = |bytes: &[u8]| vec![bytes.to_vec()];
+    assert_eq!(ask(AGENT_NAME, &[]), (vec![0, 0, 80, 2], string(b"ab")));
+    let size = 1 << 63 | 9;
+    let file = vec![0, 86, FILE, 5, 4096, size, 3, 5, 83, 1, 85, 0];
+    assert_eq!(ask(RECORD_AT, &[0]), (file, none.clone()));
+    assert_eq!(ask(RECORD_NAME, &[0]), (vec![0, 0, 83, 1], string(b"k")));
+    assert_eq!(ask(RECORD_META, &[0]), (vec![0, 0, 85, 0], string(b"")));
+    let end = vec![0, 86, END, 0, 0, 0, 0, 0, 0, 0, 0, 0];
+    assert_eq!(ask(RECORD_AT, &[1]), (end, none.clone()));
+    // From the count on: 3 with the used length, and no string.
+    for index in [2, 1 << 32, u64::MAX] {
+        let past = vec![3, 86, 0, 0, 0, 0, 0, 0, 0, 0, 0, 0];
+        assert_eq!(ask(RECORD_AT, &[index]), (past, none.clone()));
+        for call in [RECORD_NAME, RECORD_META] {
+            assert_eq!(ask(call, &[index]), (vec![0; 4], string(b"")));
+        }
+    }
+    for call in [RECORD_NAME, RECORD_META] {
+        assert_eq!(ask(call, &[1]), (vec![0; 4], string(b"")));
+    }
+}
+
+#[test]
+fn a_refused_payload_is_answered() {
+    // The file's meta is past the table.
+    let mut refused = PAYLOAD;
+    refused[44] = 6;
+    let ask = |call, numbers: &[u64]| {
+        let answer = answer(call, numbers, &[&refused]);
+        (answer.numbers, answer.strings.concat())
+    };
+    assert_eq!(ask(HANDOVER_READ, &[]).0, [22, 16]);
+    assert_eq!(ask(AGENT, &[]).0, [22, 16, 0, 0, 0]);
+    assert_eq!(ask(AGENT_NAME, &[]), (vec![0; 4], vec![]));
+    for index in [0, 1, 2] {
+        let record = [22, 16, 0, 0, 0, 0, 0, 0, 0, 0, 0, 0];
+        assert_eq!(ask(RECORD_AT, &[index]).0, record);
+        assert_eq!(ask(RECORD_NAME, &[index]), (vec![0; 4], vec![]));
+        assert_eq!(ask(RECORD_META, &[index]), (vec![0; 4], vec![]));
+    }
+}
+
+#[test]
+fn a_payload_is_written_to_the_buffer() {
+    let records = &PAYLOAD[16..80];
+    let parts = numbers(&[1, 2, 0, 1, 3, 0]);
+    let mut driver = Driver::default();
+    let buffer = [0xEE; 90];
+    let written = driver.answer(&frame(
+        HANDOVER_WRITE,
+        &[],
+        &[&buffer, records, &parts, b"kab"],
+    ));
+    assert_eq!((written.call, written.numbers), (32, vec![0, 86]));
+    assert!(written.lent && written.strings.is_empty());
+    assert_eq!(driver.buffer, [&PAYLOAD[..], &[0xEE; 4]].concat());
+    assert_eq!(
+        driver.answer(&kept(HANDOVER_READ, &[], &[])).numbers,
+        [0, 86]
+    );
+    // Numbers are taken as far as they are whole.
+    let write = |parts: &[u8]| {
+        let strings = [&buffer[..], records, parts, b"kab"];
+        answer(HANDOVER_WRITE, &[], &strings).numbers
+    };
+    assert_eq!(write(&[&parts[..], &[1; 7]].concat()), [0, 86]);
+    assert_eq!(write(&parts[..47]), [22, 0]);
+    // A refusal leaves the buffer.
+    let before = driver.buffer.clone();
+    let refused = driver.answer(&kept(HANDOVER_WRITE, &[], &[records, b"", b"kab"]));
+    assert_eq!((refused.numbers, &driver.buffer), (vec![22, 0], &before));
 }

@@ -4,10 +4,11 @@
 mod adding;
 mod asking;
 pub mod frame;
+mod handover;
 pub mod table;
 
 use crate::driving::frame::{parse_frame, put_frame, Frame, Head, Lent, HEAD_LENGTH};
-use crate::driving::table::{adds, arguments, list_limit, BEGIN, BUFFER_LIMIT};
+use crate::driving::table::{adds, arguments, is_handover, list_limit, BEGIN, BUFFER_LIMIT};
 use crate::format;
 
 /// The call that a malformed frame is answered with.
@@ -74,6 +75,9 @@ impl Driver {
             call if call == BEGIN || adds(call) => {
                 adding::answer(&mut self.buffer, call, &frame.numbers, given)
             }
+            call if is_handover(call) => {
+                handover::answer(&mut self.buffer, call, &frame.numbers, given)
+            }
             call => asking::answer(&self.buffer, call, &frame.numbers, given),
         };
         Answer {
@@ -123,5 +127,5 @@ fn is_well_formed(frame: &Frame) -> bool {
     let length = |place| frame.strings.get(place).map_or(0, |s| bytes(s).len());
     arguments(frame.call) == Some(given)
         && length(0) <= BUFFER_LIMIT
-        && list_limit(frame.call).is_none_or(|(size, most)| length(1) / size <= most)
+        && list_limit(frame.call).is_none_or(|(place, size, most)| length(place) / size <= most)
 }

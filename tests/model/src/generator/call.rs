@@ -1,6 +1,7 @@
 //! The thirteen calls toward C with their arguments. A published call of Rattle is another
 //! form of one of them, or asks for the same, but for the one that takes a list of modules
-//! ([`crate::generator::module_lists`]).
+//! ([`crate::generator::module_lists`]) and those on a Handover payload
+//! ([`crate::generator::payloads`], [`crate::generator::writings`]).
 
 use crate::generator::given::Given;
 use crate::generator::records::{Framebuffer, Kernel, Module, Platform, Record};

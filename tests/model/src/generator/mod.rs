@@ -1,7 +1,8 @@
 //! Seeded inputs, for the programs that compare the library and the listing with the model:
 //! numbers ([`rng`]), [`records`] and their attributes, lists of modules ([`module_lists`]),
 //! [`contexts`], good and bad, and calls ([`mod@call`]) with [`arguments`] that suit them, alone
-//! and in sequences ([`inputs`]). All of it comes from a seed and an index alone.
+//! and in sequences ([`inputs`]); Handover [`payloads`], good and bad, and what is given to write
+//! one ([`writings`]). All of it comes from a seed and an index alone.
 
 pub mod arguments;
 pub mod call;
@@ -9,8 +10,10 @@ pub mod contexts;
 pub mod given;
 pub mod inputs;
 pub mod module_lists;
+pub mod payloads;
 pub mod records;
 pub mod rng;
+pub mod writings;
 
 /// The seed of a program that is given none.
 pub const DEFAULT_SEED: u64 = 0x554C_5442;

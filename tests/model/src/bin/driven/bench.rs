@@ -14,7 +14,7 @@ use ultra_model::tally::Tally;
 
 use crate::link::Link;
 use crate::spelling::{self, Asked};
-use crate::tally::{self, Made, ROWS, SHAPES};
+use crate::tally::{self, Made, ALL, ROWS};
 
 /// Set apart from the numbers that make the input itself.
 const SALT: u64 = 0x4452_4956_454E;
@@ -47,7 +47,7 @@ impl Driven {
         Driven {
             link,
             model: Driver::default(),
-            tally: Tally::new(ROWS, SHAPES),
+            tally: Tally::new(ROWS, ALL),
             rng: Rng::for_input(0, 0),
             index: 0,
             faults: false,

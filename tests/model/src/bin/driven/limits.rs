@@ -1,10 +1,11 @@
-//! The longest buffers, maps, outputs, lists and frames that the program takes.
+//! The longest buffers, maps, outputs, lists, runs and frames that the program takes.
 
 use ultra_model::driving::frame::{FRAME_LIMIT, HEAD_LENGTH};
 use ultra_model::driving::table::*;
 use ultra_model::generator::contexts;
 use ultra_model::generator::inputs::Difference;
 use ultra_model::generator::module_lists;
+use ultra_model::generator::payloads;
 use ultra_model::generator::records::Record;
 use ultra_model::generator::rng::Rng;
 
@@ -35,7 +36,8 @@ pub fn run(bench: &mut Driven, rng: &mut Rng) -> Result<(), Difference> {
         let string = rng.bytes(FRAME_LIMIT - HEAD_LENGTH - 8);
         bench.make_kept(&Asked::new(call, &[], &[&string]))?;
     }
-    most_modules(bench, rng)
+    most_modules(bench, rng)?;
+    longest_writing(bench, rng)
 }
 
 /// As many modules as a frame may give, with as many bytes left over as are no module.
@@ -49,5 +51,31 @@ fn most_modules(bench: &mut Driven, rng: &mut Rng) -> Result<(), Difference> {
         string.extend(rng.bytes(left_over));
         bench.make(&asked)?;
     }
+    Ok(())
+}
+
+/// A payload at the start of the longest buffer, of as many numbers as a frame may give, and of
+/// the longest run.
+fn longest_writing(bench: &mut Driven, rng: &mut Rng) -> Result<(), Difference> {
+    let records = payloads::records(rng, 1)[0].bytes();
+    let parts = |start: u64| [start, 5].map(u64::to_le_bytes).concat();
+    bench.load(vec![0xA5; BUFFER_LIMIT]);
+    for left_over in [0, 7] {
+        let mut parts = parts(1);
+        let more = 8 * NUMBERS_LIMIT + left_over - parts.len();
+        parts.extend(rng.bytes(more));
+        bench.make(&Asked::new(
+            HANDOVER_WRITE,
+            &[],
+            &[&records, &parts, b"0agent"],
+        ))?;
+    }
+    // With the kept buffer a frame has its head, four lengths, a record and two numbers besides.
+    let run = vec![b'x'; FRAME_LIMIT - HEAD_LENGTH - 16 - 32 - 16];
+    for start in [0, run.len() as u64 - 5, run.len() as u64 - 4] {
+        let asked = Asked::new(HANDOVER_WRITE, &[], &[&records, &parts(start), &run]);
+        bench.make_kept(&asked)?;
+    }
+    bench.make_kept(&Asked::new(AGENT_NAME, &[], &[]))?;
     Ok(())
 }

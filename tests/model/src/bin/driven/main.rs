@@ -7,8 +7,9 @@
 //! driven PROGRAM --one SEED INDEX    a single input, every call shown
 //! ```
 //!
-//! Most calls are lent the buffer that the program kept, so that a sequence of calls is one on
-//! the program's own memory. Malformed frames are among the calls, and inputs that end the
+//! Of every hundred inputs some forty have a Handover payload besides, to be read or to be
+//! written. Most calls are lent the buffer that the program kept, so that a sequence of calls is
+//! one on the program's own memory. Malformed frames are among the calls, and inputs that end the
 //! program have a process each. The frames of an input on which the two differ are left in
 //! `target/driven`, below the current folder; the program can be given them again. About
 //! thirty thousand inputs are needed to meet everything that is asked for.
@@ -24,12 +25,14 @@ mod endings;
 mod limits;
 mod link;
 mod malformed;
+mod payloads;
 mod program;
 mod run;
 mod several;
 mod spelling;
 mod tally;
 mod telling;
+mod writings;
 
 use std::env;
 use std::fs;

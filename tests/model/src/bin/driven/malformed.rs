@@ -11,7 +11,7 @@ use crate::spelling::Asked;
 use crate::tally::Shape;
 
 /// The ways in which a frame is malformed.
-const SHAPES: [Shape; 10] = [
+const SHAPES: [Shape; 11] = [
     Shape::UnknownCall,
     Shape::OtherNumbers,
     Shape::OtherStrings,
@@ -22,6 +22,7 @@ const SHAPES: [Shape; 10] = [
     Shape::BufferTooLong,
     Shape::MapTooLong,
     Shape::TooManyModules,
+    Shape::TooManyParts,
 ];
 
 /// Malformed frames, and after each a call that shows the buffer.
@@ -34,7 +35,7 @@ pub fn run(bench: &mut Driven, rng: &mut Rng) -> Result<(), Difference> {
             return Err(Difference("the model takes a malformed frame".into()));
         }
         bench.tally.shape(shape as usize);
-        let shows = rng.pick(&[READ, LISTING_LENGTH, COMMAND_LINE]);
+        let shows = rng.pick(&[READ, LISTING_LENGTH, COMMAND_LINE, AGENT_NAME]);
         bench.make_kept(&Asked::new(shows, &[], &[]))?;
     }
     Ok(())
@@ -77,6 +78,7 @@ fn make(rng: &mut Rng, shape: Shape) -> Vec<u8> {
         Shape::CountsThatWrap => counts_that_wrap(rng, call),
         Shape::BufferTooLong => buffer_too_long(rng),
         Shape::TooManyModules => too_many_modules(rng),
+        Shape::TooManyParts => too_many_parts(rng),
         _ => map_too_long(rng),
     }
 }
@@ -173,6 +175,18 @@ fn too_many_modules(rng: &mut Rng) -> Vec<u8> {
     ]);
     let length = LISTED_MODULE_SIZE * (MODULES_LIMIT + 1) + more;
     list_too_long(rng, ADD_MODULES, length)
+}
+
+/// Records that could be written, in the buffer kept or given, and an empty run.
+fn too_many_parts(rng: &mut Rng) -> Vec<u8> {
+    let length = 8 * (NUMBERS_LIMIT + 1) + rng.pick(&[0, 0, 7, 8, 30_000]);
+    let (buffer, parts) = (rng.bytes(60), vec![0; length]);
+    let buffer = rng.pick(&[Lent::Kept, Lent::Bytes(&buffer)]);
+    let strings = [&[0xFF; 32][..], &parts, &[]].map(Lent::Bytes);
+    let strings = [&[buffer][..], &strings].concat();
+    let mut frame = Vec::new();
+    put_frame(&mut frame, HANDOVER_WRITE, &[], &strings);
+    frame
 }
 
 /// A call with the buffer kept or given, and a second string of that length.

@@ -15,8 +15,8 @@ use ultra_model::tally::Tally;
 use crate::bench::Driven;
 use crate::endings::Otherwise;
 use crate::link::{Found, Link};
-use crate::tally::{gaps, ROWS, SHAPES};
-use crate::{again, endings, limits, malformed, several};
+use crate::tally::{gaps, ALL, ROWS};
+use crate::{again, endings, limits, malformed, payloads, several};
 
 /// How many programs run at a time.
 const PROGRAMS: u64 = 2;
@@ -24,6 +24,7 @@ const PROGRAMS: u64 = 2;
 const FOLDER: &str = "target/driven";
 /// Set apart from the numbers that make the input and its calls.
 const SALT: u64 = 0x4D4F_5245;
+const PAYLOAD_SALT: u64 = 0x4841_4E44;
 /// Every so many inputs there are malformed frames, and the longest frames.
 const MALFORMED_EVERY: u64 = 64;
 const LIMITS_EVERY: u64 = 4_096;
@@ -47,7 +48,8 @@ fn input(bench: &mut Driven, seed: u64, index: u64) -> Result<(), Difference> {
     if index.is_multiple_of(LIMITS_EVERY) {
         limits::run(bench, rng)?;
     }
-    several::run(bench, rng)
+    several::run(bench, rng)?;
+    payloads::run(bench, &mut Rng::for_input(seed ^ PAYLOAD_SALT, index))
 }
 
 pub fn all(run: &Run) -> ExitCode {
@@ -89,7 +91,7 @@ pub fn all(run: &Run) -> ExitCode {
 fn run_all(run: &Run) -> io::Result<(Tally, Option<Found>)> {
     // No input from here on needs to be run.
     let stop = AtomicU64::new(run.inputs);
-    let mut total = Tally::new(ROWS, SHAPES);
+    let mut total = Tally::new(ROWS, ALL);
     let mut found = Vec::new();
     thread::scope(|scope| {
         let stop = &stop;

@@ -1,6 +1,8 @@
 //! What the published calls can answer, and the shapes that have to be met.
 
+pub mod payloads;
 mod several;
+pub mod writings;
 
 use ultra_model::driving::table::*;
 use ultra_model::driving::Answer;
@@ -39,7 +41,17 @@ pub const ROWS: &[Row; LAST as usize] = &[
     asking("list", set(&[0, 18])),
     asking("listing_length", NONE),
     adding("add_modules", &[11, 13, 14, 15]),
+    asking("handover::read", PAYLOAD),
+    asking("agent", PAYLOAD),
+    asking("agent_name", NONE),
+    asking("record_at", PAYLOAD),
+    asking("record_name", NONE),
+    asking("record_meta", NONE),
+    asking("handover::write", set(&[0, 3, 15, 18, 22, 23])),
 ];
+
+/// What reading a payload gives.
+const PAYLOAD: u32 = set(&[0, 1, 3, 15, 20, 21, 22, 23]);
 
 ultra_model::shapes! {
     BufferGiven: "calls lent the bytes given",
@@ -159,6 +171,51 @@ ultra_model::shapes! {
     BufferTooLong: "malformed: a buffer of more than 131,072 bytes",
     MapTooLong: "malformed: a map or output of more than 9,000 numbers",
     TooManyModules: "malformed: more than 16 modules",
+    TooManyParts: "malformed: parts of more than 9,000 numbers",
+}
+
+/// A shape of one of these files, by its place among the names of all.
+pub trait Counted: Copy {
+    fn place(self) -> usize;
+}
+
+impl Counted for Shape {
+    fn place(self) -> usize {
+        self as usize
+    }
+}
+
+impl Counted for payloads::Shape {
+    fn place(self) -> usize {
+        SHAPES.len() + self as usize
+    }
+}
+
+impl Counted for writings::Shape {
+    fn place(self) -> usize {
+        SHAPES.len() + payloads::SHAPES.len() + self as usize
+    }
+}
+
+/// The names of all shapes.
+pub const ALL: &[&str] = &joined();
+
+const fn joined() -> [&'static str; SHAPES.len() + payloads::SHAPES.len() + writings::SHAPES.len()]
+{
+    let mut all = [""; SHAPES.len() + payloads::SHAPES.len() + writings::SHAPES.len()];
+    let mut at = 0;
+    let files = [SHAPES, payloads::SHAPES, writings::SHAPES];
+    let mut file = 0;
+    while file < files.len() {
+        let mut name = 0;
+        while name < files[file].len() {
+            all[at] = files[file][name];
+            at += 1;
+            name += 1;
+        }
+        file += 1;
+    }
+    all
 }
 
 /// A call that both sides made.
@@ -191,15 +248,15 @@ impl Made<'_> {
 struct Shapes<'a>(&'a mut Tally);
 
 impl Shapes<'_> {
-    fn met(&mut self, shape: Shape) {
-        self.0.shape(shape as usize);
+    fn met(&mut self, shape: impl Counted) {
+        self.0.shape(shape.place());
     }
 
     fn impossible(&mut self) {
         self.0.impossible();
     }
 
-    fn met_if(&mut self, condition: bool, shape: Shape) {
+    fn met_if(&mut self, condition: bool, shape: impl Counted) {
         if condition {
             self.met(shape);
         }
@@ -237,6 +294,8 @@ pub fn count(tally: &mut Tally, made: &Made) {
         }
         LIST => list(shapes, made),
         ADD_MODULES => several::count(shapes, made),
+        HANDOVER_WRITE => writings::count(shapes, made),
+        call if is_handover(call) => payloads::count(shapes, made),
         _ => {}
     }
     shapes.met_if(has_wide_number(made.asked), Shape::NumberWide);
@@ -407,12 +466,12 @@ fn text(shapes: &mut Shapes, array: &[u8], field: &[u8]) {
 
 /// Counts a part that is not empty and occurs once in its buffer, so that its bytes show its
 /// place.
-fn once(shapes: &mut Shapes, made: &Made) {
+fn once(shapes: &mut Shapes, made: &Made, shape: impl Counted) {
     let part = &made.answer.strings[0][..];
     if !part.is_empty() {
         let places = made.before.windows(part.len());
         let places = places.filter(|place| *place == part).take(2).count();
-        shapes.met_if(places == 1, Shape::PartOnce);
+        shapes.met_if(places == 1, shape);
     }
 }
 
@@ -432,7 +491,7 @@ fn part(shapes: &mut Shapes, made: &Made) {
         (false, 0) => Shape::EmptyLinePart,
         (false, _) => Shape::LinePart,
     });
-    once(shapes, made);
+    once(shapes, made, Shape::PartOnce);
 }
 
 fn line(shapes: &mut Shapes, made: &Made) {
@@ -441,18 +500,19 @@ fn line(shapes: &mut Shapes, made: &Made) {
         [_, 0] => Shape::EmptyLine,
         _ => Shape::Line,
     });
-    once(shapes, made);
+    once(shapes, made, Shape::PartOnce);
 }
 
-/// What was never met, and whether too few parts show their place.
+/// What was never met, and whether too few parts and strings show their place.
 pub fn gaps(tally: &Tally) -> Vec<String> {
     let mut gaps = tally.gaps();
-    let count = |shape: Shape| tally.met(shape as usize);
+    let count = |shape: Shape| tally.met(shape.place());
     let parts = [Shape::MapPart, Shape::LinePart, Shape::Line].map(count);
     let parts: u64 = parts.iter().sum();
     let once = count(Shape::PartOnce);
     if once * 10 < parts * 9 {
         gaps.push(format!("of {parts} parts only {once} occur once"));
     }
+    gaps.extend(payloads::gap(tally));
     gaps
 }

@@ -1,13 +1,13 @@
--- `given::load_numbers` is safe and ends.
+-- `frame::load_numbers` is safe and ends.
 use Prim.Native.Nat.{_-_, _≤_}
 use mathlib.Core.Path.{_≡_}
 use borrow.Author.Needs.{needs}
 use lib.ListN.{length}
-use Rattle.framed_calls.proofs.given.load_numbers.Statement.{statement}
-use Rattle.framed_calls.proofs.given.load_numbers.Tie as tie
-use Rattle.framed_calls.proofs.given.load_numbers.Reads as reads
-use Rattle.framed_calls.proofs.given.load_numbers.Lts as lts
-use Rattle.framed_calls.proofs.given.least.Reads as least-reads
+use Rattle.call_frames.proofs.frame.load_numbers.Statement.{statement}
+use Rattle.call_frames.proofs.frame.load_numbers.Tie as tie
+use Rattle.call_frames.proofs.frame.load_numbers.Reads as reads
+use Rattle.call_frames.proofs.frame.load_numbers.Lts as lts
+use Rattle.call_frames.proofs.least.Reads as least-reads
 use Rattle.words.proofs.load_u64.Reads as load-u64-reads
 
 abbrev Inv-loop : tie.InvT-loop

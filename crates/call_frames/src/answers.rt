@@ -1,5 +1,5 @@
 // Frames of answers: the call, its numbers, the buffer after it, and what else is handed back.
-use call_frames::reply;
+use crate::reply;
 use refusals::Answer;
 
 // 0, or a refusal's number.
@@ -40,8 +40,8 @@ pub fn plain(out: &mut [u8], call: u32, answer: Answer, buf: &[u8]) -> u32 {
     begin_plain(out, call, answer, 1, buf)
 }
 
-// Numbers, the buffer, and one string.
-pub fn string(out: &mut [u8], call: u32, numbers: &[u64], buf: &[u8], string: &[u8]) -> u32 {
-    let at = begin(out, call, numbers, 2, buf);
-    reply::string(out, at, string)
+// The place of a part of the buffer, the buffer, and the slice that a call without a number hands back.
+pub fn part(out: &mut [u8], call: u32, start: u32, length: u32, buf: &[u8], slice: &[u8]) -> u32 {
+    let at = begin(out, call, &[0, 0, start as u64, length as u64], 2, buf);
+    reply::string(out, at, slice)
 }
