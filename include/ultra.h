@@ -83,11 +83,6 @@ extern "C" {
 #define ULTRA_FULL    17 /* adding to ULTRA_COUNT_MAX attributes */
 #define ULTRA_ROOM    18 /* the new attribute would end past the room, or an output is too short */
 #define ULTRA_ABSENT  19 /* the context has no map */
-/* Of Handover payloads: no call of this header gives them. */
-#define ULTRA_MAGIC   20 /* the magic is another */
-#define ULTRA_PAYLOAD 21 /* the size ends within the records, or past the room */
-#define ULTRA_STRING  22 /* a string is not closed in its table; in writing, it has a zero byte or passes the run */
-#define ULTRA_END     23 /* the last record has no end tag, or another has it */
 
 /* Limits of a context. */
 #define ULTRA_ROOM_MAX  65536 /* bytes of a buffer that count, from its start */

@@ -8,8 +8,9 @@ On README.md, docs/*.md and the README.md of tests, samples and crates; not on d
     names         A word in backticks, and any word with an underscore, is a name that some file gives: a crate, a function, a definition,
                   a theorem, a target, a sample. `cases_*` stands for names that begin so.
     files         A file is the end of a path in the repository; what is in target/ is not looked at.
-    refusals      A number with a word in capitals, as 12 FORM, is one of include/ultra.h; the table of docs/CALLS.md has all, in order, and
-                  says when each is given in the words that crates/refusals/specs/Refusals.antt quotes, where it quotes the whole.
+    refusals      A number with a word in capitals, as 12 FORM, is one of crates/refusals; the table of docs/CALLS.md has all, in order, and
+                  says when each is given in the words that specs/Refusals.antt there quotes first, where it quotes the whole. Those of
+                  include/ultra.h are the first of them.
 On docs/PROMISES.md:
     statements    What a row or a sentence says is stated in a file of specs/ is there, and its proof in proofs/: the form is told under
                   "Names" on that page.
@@ -29,7 +30,7 @@ from readme import FENCE, README, found, prose, read
 PAGES = (README, "docs/*.md", "tests/README.md", "samples/README.md", "crates/*/README.md")
 HISTORY = "docs/CHANGES.md"
 PROMISES, CALLS, HEADER, LISTING = "docs/PROMISES.md", "docs/CALLS.md", "include/ultra.h", "samples/listing.txt"
-QUOTES = "crates/refusals/specs/Refusals.antt"
+QUOTES, NUMBERS = "crates/refusals/specs/Refusals.antt", "crates/refusals/src/lib.rt"
 # Words in backticks that no file here gives: of the languages, of tools, of the listing, of an example's contract.
 FOREIGN = set("requires ensures pub const type rt strlen black_box GLIBC_TUNABLES ultra-list cmdline half r len".split())
 # What stands for any name, in a path.
@@ -126,23 +127,31 @@ def file_problems(text, names):
 
 
 def refusals(root):
+    """(number, name) of each refusal."""
+    return [(number, name) for name, number in re.findall(r"^pub const ([A-Z]+): u16 = (\d+);", read(root / NUMBERS), re.M)]
+
+
+def header_refusals(root):
     """(number, name) of each refusal of the header."""
     return [(number, name) for name, number in re.findall(r"^#define ULTRA_([A-Z]+) +(\d+)", read(root / HEADER), re.M) if number != "0"]
 
 
 def refusal_problems(text, known):
-    return [f"{number} {name} is no refusal of {HEADER}" for number, name in re.findall(r"\b(\d+) ([A-Z]{4,})\b", prose(text))
+    return [f"{number} {name} is no refusal of {NUMBERS}" for number, name in re.findall(r"\b(\d+) ([A-Z]{4,})\b", prose(text))
             if (number, name) not in known]
 
 
 def refusal_table_problems(root):
     rows = [tuple(row["No."].split()) for row in tables(read(root / CALLS)) if "No." in row]
     if rows != refusals(root) or not rows:
-        yield f"{CALLS}: the table of refusals is not that of {HEADER}"
+        yield f"{CALLS}: the table of refusals is not that of {NUMBERS}"
+    of_header = header_refusals(root)
+    if of_header != refusals(root)[: len(of_header)] or not of_header:
+        yield f"{HEADER}: its refusals are not the first of {NUMBERS}"
 
 
 def wording_problems(root):
-    quoted = {name: quote for quote, name in re.findall(r'^-- "([^"]*)"\nabbrev pub ([A-Z]+) : ', read(root / QUOTES), re.M)}
+    quoted = {name: quote for quote, name in re.findall(r'^-- "([^"]*)"(?:; .*)?\nabbrev pub ([A-Z]+) : ', read(root / QUOTES), re.M)}
     for row in tables(read(root / CALLS)):
         name = row.get("No.", " ").split()[-1:]
         wanted = quoted.get(name[0]) if name else None

@@ -77,6 +77,7 @@ One record, `Demand` (ultra_rules Demand), proved as `demand`; `Ranges` (ultra_r
     "tests/all.mk": "test-list: list\ncompare:\n",
     "tests/other.mk": "other:\n",
     "include/ultra.h": "#define ULTRA_OK 0\n#define ULTRA_SHORT 1\n#define ULTRA_FORM  2 /* x */\n#define ULTRA_SIZE_MAX 9\n",
+    "crates/refusals/src/lib.rt": "pub const SHORT: u16 = 1;\n\npub const FORM: u16 = 2;\n",
     "samples/listing.txt": "version=1.0\nattributes=2\nplatform=2\nused=480\n",
     "samples/listing.bin": "",
     "crates/cases_reading/stdout": "module at 0: read\nmodule at 2048: refused 13 at 8\n",
@@ -156,12 +157,13 @@ class Case(unittest.TestCase):
         self.slip("README.md", "include/ultra.h", "includes/ultra.h", "includes/ultra.h: no such file")
 
     def test_refusals(self):
-        table = "the table of refusals is not that of include/ultra.h"
-        self.slip("docs/CALLS.md", "2 FORM", "2 FROM", "2 FROM is no refusal of include/ultra.h", table)
-        self.slip("docs/CALLS.md", "2 FORM", "3 FORM", "3 FORM is no refusal of include/ultra.h", table)
+        table = "the table of refusals is not that of crates/refusals/src/lib.rt"
+        self.slip("docs/CALLS.md", "2 FORM", "2 FROM", "2 FROM is no refusal of crates/refusals/src/lib.rt", table)
+        self.slip("docs/CALLS.md", "2 FORM", "3 FORM", "3 FORM is no refusal of crates/refusals/src/lib.rt", table)
         self.slip("docs/CALLS.md", "| 2 FORM | `requires` |\n", "", table)
         self.slip("docs/CALLS.md", "No.", "Number", table)
-        self.slip("docs/PROMISES.md", "1 SHORT", "1 FORM", "1 FORM is no refusal of include/ultra.h")
+        self.slip("docs/PROMISES.md", "1 SHORT", "1 FORM", "1 FORM is no refusal of crates/refusals/src/lib.rt")
+        self.slip("include/ultra.h", "ULTRA_FORM  2", "ULTRA_FORM  3", "its refusals are not the first of crates/refusals/src/lib.rt")
         self.slip("docs/CALLS.md", "below 8", "below 9",
                   "SHORT is given when `below 9`, expected `below 8` (crates/refusals/specs/Refusals.antt)")
 
