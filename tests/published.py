@@ -1,9 +1,10 @@
 #!/usr/bin/env python3
-"""Holds the contract of every published call to the definition that docs/CALLS.md and demand 2 name.
+"""Holds the contract of every published call to the definition that docs/CALLS.md and a promise name.
 
 usage: published.py [ROOT]     ROOT is the repository's folder
 
-Published are the calls of the tables below "Calls from C", "Calls from Rattle" and "Calls on Handover payloads" in docs/CALLS.md. What is held of each:
+Published are the calls of the tables below "Calls from C", "Calls from Rattle" and "Calls on Handover payloads" in docs/CALLS.md. What is
+held of each:
 
     requires    It has none: "no call relies on a check made before it" (demand 1).
     ensures     It has one, an equation of all that it answers and writes with a term E: `r ≡ E`; `(r, now (P .exit)) ≡ E` where P is lent
@@ -20,8 +21,9 @@ Every case stands for published calls, and one case for every published call but
 The calls of the table "Calls on Handover payloads" do not join demand 2, which speaks of contexts. Of each, E is one definition of all its
 parameters in their order, and where it hands back a slice the contract is `DHandedBack r (buf .entry) ..`, of the other parameters in their
 order; the definition is one that PROMISES_ON_PAYLOADS speak of, and the first that its row names.
- Every exported function
-of crate ultra is published, and so is every public function of a crate that a published call's path names, but for those of INNER.
+
+Every exported function of crate ultra is published, and so is every public function of a crate that a published call's path names, but for
+those of INNER.
 Exit status 1, with a line for each problem.
 """
 import collections
