@@ -3,5 +3,5 @@ pub mod PayloadAcceptance
 pub mod FirstBreak
 pub mod Conditions
 pub mod PayloadRefusals
-pub mod Witness
 pub mod PayloadUnread
+pub mod Witness

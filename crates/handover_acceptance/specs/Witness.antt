@@ -5,7 +5,7 @@
 use Prim.Native.Nat.{ℕ}
 use mathlib.Core.Path.{_≡_}
 use mathlib.Core.List.{List, [], _∷_, _++_}
-use lib.ListN.{replicate}
+use lib.ListN.{replicate, set}
 use Rattle.refusals.specs.Answers.{refused}
 use Rattle.refusals.specs.declared.Answer.the-variants.{Done}
 use Rattle.handover_reading.specs.PayloadReading.{readingOf}
@@ -48,3 +48,6 @@ pub record Witnessed : Type 0 where
   pub unclosed : readingOf (head 0 49 1 0 ++ row 255 1 ++ (97 ∷ 0 ∷ [])) ≡ refused 22 0
   pub string : readingOf (head 0 113 3 0 ++ row 0 1 ++ file ++ row 255 1 ++ (0 ∷ [])) ≡ refused 22 48
   pub least : readingOf (head 0 49 1 0 ++ row 255 1 ++ (0 ∷ [])) ≡ Done 49
+  -- by `UnreadBytes`: byte 16 where the size is 16, and whatever follows 65,536 bytes
+  pub unreadByte : (x : ℕ) → readingOf (set (head 0 16 1 0 ++ (5 ∷ [])) 16 x) ≡ refused 21 0
+  pub unreadRest : (rest : List ℕ) → readingOf (replicate 65536 0 ++ rest) ≡ readingOf (replicate 65536 0)

@@ -1,5 +1,5 @@
 -- The example, by computing, and what the statements say of it.
-use Prim.Native.Nat.{ℕ, zero, suc, _+_, _*_, _<_}
+use Prim.Native.Nat.{ℕ, zero, suc, _+_, _*_, _≤_, _<_}
 use mathlib.Core.Path.{_≡_, refl, sym, ap, _∙_, subst}
 use mathlib.Core.Logic.{_⊎_, inl, inr, ⊎-elim}
 use mathlib.Core.Bool.{Bool, true, _&&_}
@@ -11,24 +11,28 @@ use borrow.Author.Tests.{ltb-true}
 use Rattle.words.specs.Words.{numberAt}
 use Rattle.byte_layout.specs.Fields.{cells, filled}
 use Rattle.byte_layout.specs.Stored.{Bytes, bytesAt, textAt, over}
+use Rattle.lent_buffers.specs.Room.{roomOf}
 use Rattle.refusals.specs.Refusals.{COUNT, END}
 use Rattle.refusals.specs.Answers.{refusal, refused}
 use Rattle.refusals.specs.declared.Answer.the-variants.{Done}
 use Rattle.refusals.proofs.Chains.{both-hold}
-use Rattle.handover_format.specs.Payloads.{handoverEnd, Payload}
+use Rattle.handover_format.specs.Payloads.{handoverEnd, Payload, noEntry, entryIn}
 use Rattle.handover_format.specs.declared.records.Record.{Record}
-use Rattle.handover_format.specs.PayloadLayouts.{recordFields, entriesFields}
+use Rattle.handover_format.specs.PayloadLayouts.{recordFields, entriesFields, Silent}
 use Rattle.handover_format.specs.RecordTests.{ifNamed}
 use Rattle.handover_format.specs.WrittenForm.{closedIf, strings, wordsAt, placedFrom}
-use Rattle.handover_arguments.specs.PayloadGiven.{countGiven, recordGiven, entriesFrom}
+use Rattle.handover_arguments.specs.PayloadGiven.{countGiven, recordGiven, agentGiven, entriesFrom, entriesGiven}
 use Rattle.handover_arguments.specs.Judging.{every, runHas, stringGood, stringsGood, writeCheck}
 use Rattle.handover_writing.specs.Writing.{payloadWritten}
 use Rattle.handover_demand_3.specs.PayloadDemand3.{ReadingIs}
 use Rattle.handover_written.specs.WritingRefusals.{WritingBreaks, WritingBreaks.none, WritingBreaks.many, WritingBreaks.misplaced, WritingBreaks.missing, WritingBreaks.range, WritingBreaks.agent, WritingBreaks.name, WritingBreaks.meta, WritingBreaks.past}
-use Rattle.handover_written.specs.WritesBack.{payloadGiven}
+use Rattle.handover_written.specs.WritesBack.{payloadGiven, WrittenBack}
+use Rattle.handover_written.specs.Placing.{AsGiven}
 use Rattle.handover_written.specs.WritesAgain.{recordsFrom, recordsRead, partsFrom, partsRead}
-use Rattle.handover_written.specs.Witness.{ended, abc, parts, out, recordsWritten, partsWritten, left, written, Witnessed}
+use Rattle.handover_written.specs.Witness.{line, last, ended, abc, parts, out, recordsWritten, partsWritten, left, written, Witnessed}
 use Rattle.handover_demand_3.proofs.Witness.{allBytes, are-bytes}
+use Rattle.handover_written.proofs.Placing.{each-as-given}
+use Rattle.handover_written.proofs.InTurn.{no-padding}
 use Rattle.handover_written.proofs.WritingRefusals.{writing-refuses}
 use Rattle.handover_written.proofs.WritesBack.{writes-back}
 use Rattle.handover_written.proofs.WritesAgain.{writes-again}
@@ -112,13 +116,55 @@ parts-are =
     ∷ w j .name .start ∷ w j .name .length ∷ w j .meta .start ∷ w j .meta .length
     ∷ []
 
-left-again : payloadWritten (out 156) (recordsRead left) (partsRead left) left ≡ (Done 155, over (take 155 left) (out 156))
-left-again =
-    subst (λ (d : List ℕ). payloadWritten (out 156) (recordsRead d) (partsRead d) d ≡ (Done 155, over (take 155 d) (out 156))) left-is
-    (writes-again (out 158) ended parts abc 155 ended-bytes abc-bytes answer (out 156) (omega arith))
+left-again : (e : List ℕ) → 155 ≤ roomOf e → payloadWritten e (recordsRead left) (partsRead left) left ≡ (Done 155, over (take 155 left) e)
+left-again e h =
+    subst (λ (d : List ℕ). payloadWritten e (recordsRead d) (partsRead d) d ≡ (Done 155, over (take 155 d) e)) left-is
+    (writes-again (out 158) ended parts abc 155 ended-bytes abc-bytes answer e h)
 
 written-again : payloadWritten (out 156) recordsWritten partsWritten left ≡ (Done 155, written ++ (165 ∷ []))
-written-again = (λ j. payloadWritten (out 156) (sym records-are j) (sym parts-are j) left) ∙ left-again
+written-again = (λ j. payloadWritten (out 156) (sym records-are j) (sym parts-are j) left) ∙ left-again (out 156) (omega arith)
+
+again-exact : payloadWritten (out 155) recordsWritten partsWritten left ≡ (Done 155, written)
+again-exact = (λ j. payloadWritten (out 155) (sym records-are j) (sym parts-are j) left) ∙ left-again (out 155) (omega arith)
+
+-- ---- the widest bytes
+unfoldable wideRecords : List ℕ
+wideRecords = line (0 ∷ 0 ∷ 0 ∷ 0 ∷ []) ++ last 255 1
+
+abbrev wideParts : List ℕ
+wideParts = 0 ∷ 0 ∷ 9 ∷ 9 ∷ 0 ∷ 2 ∷ []
+
+abbrev wideRun : List ℕ
+wideRun = 1 ∷ 255 ∷ []
+
+wide-bytes : Bytes wideRecords
+unfolding allBytes wideRecords
+wide-bytes = are-bytes wideRecords refl
+
+wide-run : Bytes wideRun
+unfolding allBytes
+wide-run = are-bytes wideRun refl
+
+wide-answer : payloadWritten (out 84) wideRecords wideParts wideRun .0 ≡ Done 84
+unfolding payloadWritten writeCheck every stringGood runHas stringsGood ifNamed entriesFrom numberAt bytesAt textAt closedIf strings wordsAt placedFrom entriesFields cells filled wideRecords
+wide-answer = refl
+
+wide-read : ReadingIs (payloadWritten (out 84) wideRecords wideParts wideRun .1) (payloadGiven wideRecords wideParts wideRun)
+wide-read = writes-back (out 84) wideRecords wideParts wideRun 84 wide-bytes wide-run wide-answer .reads
+
+-- ---- every byte and every record
+back-whole : WrittenBack (out 158) (payloadWritten (out 158) ended parts abc .1) (payloadGiven ended parts abc) 155
+back-whole = writes-back (out 158) ended parts abc 155 ended-bytes abc-bytes answer
+
+loud-byte : (i : ℕ) → i < 155 → Silent (payloadGiven ended parts abc) i → ⊥
+loud-byte i h = no-padding (agentGiven parts abc) (entriesGiven ended parts abc) _ (back-whole .holds .0) i (omega (arith, back-whole .answered))
+
+four-given : length (entriesGiven ended parts abc) ≡ 4
+unfolding entriesFrom
+four-given = refl
+
+as-given : (i : ℕ) → i < 4 → AsGiven (getD (entriesGiven ended parts abc) i noEntry) (entryIn (payloadGiven ended parts abc) i)
+as-given i h = each-as-given (agentGiven parts abc) (entriesGiven ended parts abc) .1 i (omega (arith, four-given))
 
 -- ---- refusals
 too-many : (rs : List ℕ) → 1024 < countGiven rs → payloadWritten [] rs [] [] .0 ≡ refused COUNT 0
@@ -161,7 +207,7 @@ many-records : 1024 < countGiven (replicate (32 * 1025) 0)
 many-records = omega (arith, length-replicate {A = ℕ} (32 * 1025) 0)
 
 pub witnessed : Witnessed
-unfolding payloadWritten writeCheck every stringGood runHas stringsGood ifNamed entriesFrom numberAt bytesAt textAt closedIf strings wordsAt placedFrom entriesFields cells filled example
+unfolding payloadWritten writeCheck every stringGood runHas stringsGood ifNamed entriesFrom numberAt bytesAt textAt closedIf strings wordsAt placedFrom entriesFields cells filled example wideRecords
 witnessed =
     record {
       bytes = ended-bytes;
@@ -175,6 +221,11 @@ witnessed =
       lineRead = reading .each 2 (omega arith);
       past = reading .past 4 (omega arith);
       again = written-again;
+      againExact = again-exact;
+      widest = wide-read .metas 0 (omega arith);
+      loud = loud-byte;
+      firstAsGiven = as-given 0 (omega arith);
+      lastAsGiven = as-given 3 (omega arith);
       none = refl;
       many = too-many (replicate (32 * 1025) 0) many-records;
       most = no-end (replicate (32 * 1024) 0) most-records (no-last (32 * 1024));

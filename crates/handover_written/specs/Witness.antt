@@ -2,17 +2,23 @@
 -- statements say of it; and for each refusal, something to write that is refused so although a later condition is met too. Proved in
 -- proofs/Witness.antt: `witnessed`.
 -- A reader has to believe this file.
-use Prim.Native.Nat.{ℕ, _*_}
+use Prim.Native.Nat.{ℕ, _*_, _<_}
 use mathlib.Core.Path.{_≡_}
 use mathlib.Core.List.{List, [], _∷_, _++_}
-use lib.ListN.{replicate, take}
+use lib.ListN.{getD, replicate, take}
 use Rattle.byte_layout.specs.Stored.{Bytes}
 use Rattle.refusals.specs.Answers.{refused}
 use Rattle.refusals.specs.declared.Answer.the-variants.{Done}
 use Rattle.lent_buffers.specs.LentParts.{part, noPart}
+use Rattle.handover_format.specs.Payloads.{noEntry, entryIn}
+use Rattle.handover_format.specs.PayloadLayouts.{Silent}
 use Rattle.handover_reading.specs.PayloadReading.{readingOf}
 use Rattle.handover_questions.specs.Questions.{recordRefused, agentAnswer, recordAnswer}
+use Rattle.handover_demand_3.specs.PayloadDemand3.{partIn}
+use Rattle.handover_arguments.specs.PayloadGiven.{entriesGiven}
 use Rattle.handover_writing.specs.Writing.{payloadWritten}
+use Rattle.handover_written.specs.Placing.{AsGiven}
+use Rattle.handover_written.specs.WritesBack.{payloadGiven}
 
 -- ---- what is lent
 -- HANDOVER_FREE, flags 7, start 4,096, size 8,192, and 5 and 6 where others have offsets
@@ -104,6 +110,15 @@ pub record Witnessed : Type 0 where
   pub past : recordAnswer left 4 ≡ recordRefused (refused 3 155)
   -- ---- by `WritesAgain` its reading writes the same bytes
   pub again : payloadWritten (out 156) recordsWritten partsWritten left ≡ (Done 155, written ++ (165 ∷ []))
+  -- with just the room
+  pub againExact : payloadWritten (out 155) recordsWritten partsWritten left ≡ (Done 155, written)
+  -- bytes 1 and 255 of a string, by `WritesBack`
+  pub widest : let d = payloadWritten (out 84) (line (0 ∷ 0 ∷ 0 ∷ 0 ∷ []) ++ last 255 1) (0 ∷ 0 ∷ 9 ∷ 9 ∷ 0 ∷ 2 ∷ []) (1 ∷ 255 ∷ []) .1 in
+      partIn d (recordAnswer d 0 .meta) ≡ 1 ∷ 255 ∷ []
+  -- ---- by `NoPadding` no byte of it is silent, and by `EachAsGiven` its first and its last record are as given
+  pub loud : (i : ℕ) → i < 155 → Silent (payloadGiven ended parts abc) i → ⊥
+  pub firstAsGiven : AsGiven (getD (entriesGiven ended parts abc) 0 noEntry) (entryIn (payloadGiven ended parts abc) 0)
+  pub lastAsGiven : AsGiven (getD (entriesGiven ended parts abc) 3 noEntry) (entryIn (payloadGiven ended parts abc) 3)
   -- ---- refusals. Where no string is lent the condition of 22 is met too, and in an output of no bytes that of 18
   pub none : payloadWritten [] [] [] [] ≡ (refused 3 0, [])
   -- 1,025 records: by `WritingRefuses`
