@@ -23,10 +23,7 @@ use Rattle.handover_reading.proofs.RecordLaws.{nameSuits, metaSuits, strings-ho
 use Rattle.handover_reading.proofs.Accepted.{storedLength}
 use Rattle.handover_acceptance.specs.PayloadRefusals.{HeadBreaks, HeadBreaks.short, HeadBreaks.foreign, HeadBreaks.count, HeadBreaks.extent, RecordBreaks, RecordBreaks.misplaced, RecordBreaks.missing, RecordBreaks.range, Closes, StringBreaks, StringBreaks.name, StringBreaks.meta, headOrder, recordOrder}
 use Rattle.refusals.specs.Order.{NoneBreaks}
-use Rattle.refusals.proofs.Order.{AllFine, Chain, ends, link, one-number, either-fails}
-
-clash : {X : Type 0} → true ≡ false → X
-clash e = absurd (let z : _≡_ {A = ℕ} 0 1 = cc in omega arith)
+use Rattle.refusals.proofs.Order.{clash, AllFine, Chain, ends, link, one-number, either-fails}
 
 below : (a b : ℕ) → (leb a b ≡ false) ↔ (b < a)
 below a b = (leb-false a b, lt-leb a b)

@@ -9,6 +9,7 @@ use native.Mathlib.Nat.{add-zero}
 use lib.ListN.{length, getD}
 use lib.Dec.{ltb, eqb}
 use borrow.Author.Tests.{ltb-true, lt-ltb, eqb-true, eqb-false, eq-eqb, ne-eqb, not-true}
+use Rattle.refusals.proofs.Order.{clash}
 use Rattle.byte_layout.specs.Fields.{Field.text, Fits, FieldFits}
 use Rattle.byte_layout.specs.Stored.{Bytes, textAt}
 use Rattle.byte_layout.proofs.FieldLaws.{holds-fit}
@@ -18,9 +19,6 @@ use Rattle.handover_format.specs.PayloadRules.{StringMeets}
 use Rattle.handover_format.specs.PayloadDecoding.{pick, stringAt}
 use Rattle.handover_format.specs.RecordTests.{endSuits, ifNamed}
 use Rattle.handover_reading.specs.PayloadReading.{closes}
-
-clash : {X : Type 0} → true ≡ false → X
-clash e = absurd (let z : _≡_ {A = ℕ} 0 1 = cc in omega arith)
 
 -- ---- the end tag
 end-by : (l : Bool) (i n t : ℕ) → eqb (i + 1) n ≡ l → endSuits l t ≡ true → (t ≡ handoverEnd) ↔ (i + 1 ≡ n)

@@ -18,7 +18,7 @@ use Rattle.refusals.specs.Answers.{numberOf, valueOf}
 use Rattle.refusals.specs.Order.{First, NoneBreaks}
 use Rattle.refusals.specs.declared.Refusal.{Refusal}
 use Rattle.refusals.specs.declared.Answer.the-variants.{Done, Refused}
-use Rattle.refusals.proofs.Order.{AllFine, Chain, ends, link, said-first, said-none, one-number, either-fails}
+use Rattle.refusals.proofs.Order.{clash, AllFine, Chain, ends, link, said-first, said-none, one-number, either-fails}
 use Rattle.handover_format.specs.Payloads.{handoverEnd, namesName, namesMeta, Entry}
 use Rattle.handover_format.specs.RecordTests.{endSuits, ifNamed}
 use Rattle.handover_format.specs.WrittenForm.{payloadSize, payloadBytes}
@@ -26,9 +26,6 @@ use Rattle.handover_arguments.specs.PayloadGiven.{countGiven, recordGiven, agen
 use Rattle.handover_arguments.specs.Judging.{every, endGood, rangeGood, runHas, stringGood, stringsGood, writeCheck}
 use Rattle.handover_writing.specs.Writing.{orWritten, payloadWritten}
 use Rattle.handover_written.specs.WritingRefusals.{StringBreaks, StringBreaks.unlent, StringBreaks.passes, StringBreaks.zeroByte, WritingBreaks, WritingBreaks.none, WritingBreaks.many, WritingBreaks.misplaced, WritingBreaks.missing, WritingBreaks.range, WritingBreaks.agent, WritingBreaks.name, WritingBreaks.meta, WritingBreaks.past, writingOrder, WritingRefuses, RefusedKeeps, WritingSucceeds}
-
-clash : {X : Type 0} → true ≡ false → X
-clash e = absurd (let z : _≡_ {A = ℕ} 0 1 = cc in omega arith)
 
 below : (a b : ℕ) → (leb a b ≡ false) ↔ (b < a)
 below a b = (leb-false a b, lt-leb a b)

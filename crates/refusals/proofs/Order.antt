@@ -16,7 +16,7 @@ AllFine (m ∷ ms) breaks = (breaks m → ⊥) × AllFine ms breaks
 abbrev pub Chain : List ℕ → (ℕ → Type 0) → ℕ → Type 0
 Chain ms breaks v = ((v ≡ 0) × AllFine ms breaks) ⊎ ((v ≡ 0 → ⊥) × First ms breaks v)
 
-clash : {X : Type 0} → true ≡ false → X
+pub clash : {X : Type 0} → true ≡ false → X
 clash e = absurd (let z : _≡_ {A = ℕ} 0 1 = cc in omega arith)
 
 module _ (breaks : ℕ → Type 0) where
