@@ -46,7 +46,7 @@ is not refused; `rt must-fail NAME` tries those of one crate and of every crate 
 - A label `spec_..` is a wrong definition or statement: the edit leaves the program. That it is refused shows that the proof rests on that
   word.
 - A row without a label is ruled out by the contract or the statement, and no edit tries it.
-- A refusal has its number in document 01, 1 to 19: "refused as 11", "17 comes after 9 to 16".
+- A refusal has its number in the table of docs/CALLS.md, 1 to 23: "refused as 11", "17 comes after 9 to 16".
 - What the prover says of an edit is in `target/must-fail/NAME/LABEL/.log`, after `make test` or `rt must-fail NAME`.
 
 Each row says what is wrong, in the words of the edit's own line `wrong:`. A row in bold names what rules out those below it. This page is
