@@ -59,7 +59,7 @@ def of_sources(root):
 
 def deepest_stack(path):
     """The bytes of stack that the deepest call of an archive takes, as the table of stack.py says; None where it makes none."""
-    told = subprocess.run([sys.executable, STACK, path, "0"], capture_output=True, text=True, check=False).stdout
+    told = subprocess.run([sys.executable, STACK, path, "0", "0"], capture_output=True, text=True, check=False).stdout
     deepest = re.search(r"^deepest: \w+, (\d+) bytes", told, re.MULTILINE)
     return int(deepest[1]) if deepest else None
 

@@ -1,8 +1,9 @@
 #!/usr/bin/env python3
 """Computes the deepest stack of each call that an archive exports, from its disassembly.
 
-usage: stack.py ARCHIVE LIMIT [MEASURED]    print a table; exit 1 where a call needs more than LIMIT bytes
-       stack.py ARCHIVE                     print what each function takes by itself
+usage: stack.py ARCHIVE LIMIT FRAME [MEASURED]    print a table; exit 1 where a call needs more than LIMIT bytes, or a single
+                                                  function more than FRAME: so no local array has more than that
+       stack.py ARCHIVE                           print what each function takes by itself
 
 MEASURED is a file with what a run saw of some calls, in lines "CALL: N bytes of stack"; exit 1 where a run saw more than is computed.
 
@@ -456,8 +457,8 @@ def print_functions(archive):
         print(f"{function.own:6} {function.name}")
 
 
-def print_calls(archive, limit):
-    """The table of exported calls; answers whether all are within the limit."""
+def print_calls(archive, limit, frame):
+    """The table of exported calls; answers which limits are exceeded."""
     if not archive.exported:
         raise NotUnderstood("the archive exports no function")
     print(f"{'call':24} {'stack':>6} {'of these, arguments':>20}  path (each with what it takes there)")
@@ -470,9 +471,10 @@ def print_calls(archive, limit):
     if archive.host:
         print(f"of the host's {', '.join(sorted(archive.host))} only the return address is counted")
     largest = max(archive.functions.values(), key=lambda function: function.own)
-    print(f"largest frame of a single function: {largest.name}, {largest.own} bytes")
+    print(f"largest frame of a single function: {largest.name}, {largest.own} bytes; the limit is {frame}")
     print(f"deepest: {worst[0]}, {worst[1]} bytes; the limit is {limit}")
-    return worst[1] <= limit
+    exceeded = [f"a call needs more than {limit} bytes of stack"] if limit < worst[1] else []
+    return exceeded + ([f"a function has a frame of more than {frame} bytes"] if frame < largest.own else [])
 
 
 def compare(archive, path):
@@ -489,7 +491,7 @@ def compare(archive, path):
 
 
 def main(arguments):
-    if len(arguments) not in (1, 2, 3):
+    if len(arguments) not in (1, 3, 4):
         print(__doc__, file=sys.stderr)
         return 2
     try:
@@ -497,11 +499,12 @@ def main(arguments):
         if len(arguments) == 1:
             print_functions(archive)
             return 0
-        if not print_calls(archive, int(arguments[1])):
-            print(f"stack.py: a call needs more than {arguments[1]} bytes of stack", file=sys.stderr)
+        exceeded = print_calls(archive, int(arguments[1]), int(arguments[2]))
+        if exceeded:
+            print(f"stack.py: {'; '.join(exceeded)}", file=sys.stderr)
             return 1
-        if len(arguments) == 3:
-            compare(archive, arguments[2])
+        if len(arguments) == 4:
+            compare(archive, arguments[3])
         return 0
     except NotUnderstood as why:
         print(f"stack.py: {why}", file=sys.stderr)

@@ -10,6 +10,7 @@ import sys
 
 HERE = os.path.dirname(os.path.abspath(__file__))
 CC = os.environ.get("CC", "gcc")
+NO_LIMIT = "1000000"
 PLAIN = ["-fno-stack-protector", "-fno-asynchronous-unwind-tables", "-fcf-protection=none"]
 SHAPES = ["-O0", "-O1", "-O2", "-Os", "-O2 -fno-omit-frame-pointer", "-O2 -fPIC", "-O2 -fno-pic -ffunction-sections"]
 BAD = {
@@ -47,8 +48,8 @@ def compile_archive(folder, source, options):
     return thing
 
 
-def figures(archive, *limit):
-    return subprocess.run([sys.executable, os.path.join(HERE, "stack.py"), archive, *limit], capture_output=True, text=True, check=False)
+def figures(archive, *limits):
+    return subprocess.run([sys.executable, os.path.join(HERE, "stack.py"), archive, *limits], capture_output=True, text=True, check=False)
 
 
 def usage(path):
@@ -76,13 +77,15 @@ def test_shape(folder, options):
     told, own = usage(thing + ".su"), own_figures(thing + ".a")
     check(len(told) == 11 and told == own, f"{options}: gcc says {told}, stack.py {own}")
 
-    deepest, line = deepest_of(figures(thing + ".a", "1000000").stdout, "all")
+    deepest, line = deepest_of(figures(thing + ".a", NO_LIMIT, NO_LIMIT).stdout, "all")
     path = told["all"] + told["table"] + told["copy"] + (8 if "memcpy" in line else 0)
     check(deepest == path, f"{options}: all -> table -> copy takes {path}, stack.py says {deepest}")
-    check(figures(thing + ".a", str(deepest)).returncode == 0, f"{options}: refused at its limit")
-    check(figures(thing + ".a", str(deepest - 1)).returncode == 1, f"{options}: passed above its limit")
+    largest = max(told.values())
+    check(figures(thing + ".a", str(deepest), str(largest)).returncode == 0, f"{options}: refused at its limits")
+    check(figures(thing + ".a", str(deepest - 1), str(largest)).returncode == 1, f"{options}: a call passed above its limit")
+    check(figures(thing + ".a", str(deepest), str(largest - 1)).returncode == 1, f"{options}: a function passed above its limit")
 
-    deepest, _ = deepest_of(figures(thing + ".a", "1000000").stdout, "many")
+    deepest, _ = deepest_of(figures(thing + ".a", NO_LIMIT, NO_LIMIT).stdout, "many")
     check(deepest == told["many"] + 24, f"{options}: three arguments on the stack are not counted")
 
 
@@ -94,7 +97,7 @@ def test_red_zone(folder):
 
 def test_bad(folder, name, wanted):
     thing = compile_archive(folder, "bad.c", ["-O2", "-fno-optimize-sibling-calls" if name == "MUTUAL" else "-O2", f"-D{name}"])
-    done = figures(thing + ".a", "1000000")
+    done = figures(thing + ".a", NO_LIMIT, NO_LIMIT)
     check(done.returncode == 1 and wanted in done.stderr, f"{name}: exit status {done.returncode}, {done.stderr.strip()!r}, not {wanted!r}")
 
 

@@ -10,7 +10,9 @@
 ULTRA_RELEASE := 0.1.0
 PREFIX ?= /usr/local
 SECONDS ?= 60
+# Of the deepest call: "The loader's early stage has 4 KiB of stack." Of a single function: "no local array above 256 bytes".
 STACK_LIMIT := 4096
+FRAME_LIMIT := 256
 
 CXX ?= g++
 PYTHON ?= python3
@@ -84,7 +86,7 @@ test-freestanding: need-cc $(TESTS_OUT)/freestanding.log
 # The deepest stack of each call, by a script that is tested first, and held to what the freestanding run saw.
 test-stack: need-cc need-python3 need-objdump need-ar $(ARCHIVE) $(TESTS_OUT)/freestanding.log
 	$(PYTHON) tests/stack_test.py $(TESTS_OUT)/stack
-	$(PYTHON) tests/stack.py $(ARCHIVE) $(STACK_LIMIT) $(TESTS_OUT)/freestanding.log
+	$(PYTHON) tests/stack.py $(ARCHIVE) $(STACK_LIMIT) $(FRAME_LIMIT) $(TESTS_OUT)/freestanding.log
 
 # The fuzz target over its seeds, without a fuzzer.
 $(TESTS_OUT)/replay: tests/fuzz/fuzz.c tests/fuzz/replay.c $(TESTS_HEADERS) $(ARCHIVE) | $(TESTS_OUT)
