@@ -49,12 +49,6 @@ pub fn given(row: &[u8]) -> &[u8] {
     &row[colon + 2..end - 1]
 }
 
-// What the case is given, as up to six numbers: decimal digits, and a blank before each.
-pub struct Values {
-    pub count: usize,
-    pub numbers: [u64; 6],
-}
-
 // The number with one more digit, where it stays below 2^64.
 fn with_digit(number: u64, byte: u8) -> u64 {
     if byte < b'0' {
@@ -66,36 +60,42 @@ fn with_digit(number: u64, byte: u8) -> u64 {
     std::num::wrapping_add_u64(10 * number, (byte - b'0') as u64)
 }
 
-fn with_byte(before: Values, byte: u8) -> Values {
-    let count = before.count;
-    let mut numbers = before.numbers;
+// Puts the next byte of a row to the numbers, of which there are `count` so far. Answers how many there are then.
+fn put_byte(numbers: &mut [u64], count: usize, byte: u8) -> usize {
     if byte == b' ' {
-        if count < 6 {
-            return Values {
-                count: count + 1,
-                numbers,
-            };
+        if count < numbers.len() {
+            return count + 1;
         }
-        return before;
+        return count;
     }
     if count < 1 {
-        return before;
+        return count;
     }
-    if count < 7 {
+    if count <= numbers.len() {
         numbers[count - 1] = with_digit(numbers[count - 1], byte);
     }
-    Values { count, numbers }
+    count
+}
+
+// What the case is given, as numbers: decimal digits, and a blank before each. They take the place of zeros. Answers how many there are.
+pub fn put_numbers(row: &[u8], numbers: &mut [u64]) -> usize {
+    let mut count = 0;
+    let mut i = colon(row);
+    while i < row.len() {
+        count = put_byte(numbers, count, row[i]);
+        i += 1;
+    }
+    count
+}
+
+// The same, up to six.
+pub struct Values {
+    pub count: usize,
+    pub numbers: [u64; 6],
 }
 
 pub fn numbers(row: &[u8]) -> Values {
-    let mut values = Values {
-        count: 0,
-        numbers: [0u64; 6],
-    };
-    let mut i = colon(row);
-    while i < row.len() {
-        values = with_byte(values, row[i]);
-        i += 1;
-    }
-    values
+    let mut numbers = [0u64; 6];
+    let count = put_numbers(row, &mut numbers);
+    Values { count, numbers }
 }
