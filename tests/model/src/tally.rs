@@ -1,6 +1,8 @@
 //! What a comparison ran and met: inputs by kind, answers by call and number, and shapes. It
 //! knows what has to be met, so that a comparison that looks at nothing is no success.
 
+pub mod maps;
+
 use crate::generator::inputs::Kind;
 
 /// 0 and the refusals 1 to 23.
@@ -61,6 +63,23 @@ macro_rules! shapes {
         pub enum Shape { $($shape),* }
         pub const SHAPES: &[&str] = &[$($what),*];
     };
+}
+
+/// The names of several lists of shapes, one list after the other.
+pub const fn joined<const COUNT: usize>(lists: &[&[&'static str]]) -> [&'static str; COUNT] {
+    let mut all = [""; COUNT];
+    let mut at = 0;
+    let mut list = 0;
+    while list < lists.len() {
+        let mut name = 0;
+        while name < lists[list].len() {
+            all[at] = lists[list][name];
+            at += 1;
+            name += 1;
+        }
+        list += 1;
+    }
+    all
 }
 
 type Counts = [u64; NUMBERS];

@@ -367,7 +367,46 @@ fn spoil_entries(rng: &mut Rng, entries: &mut Vec<Entry>) {
     }
 }
 
+/// A few entries of which two or three rules are broken, each once: in one entry, in neighbouring
+/// ones, in the last or anywhere.
+fn several_broken(rng: &mut Rng) -> Vec<Entry> {
+    let most = 3 + rng.below(6);
+    let mut entries = entries(rng, most, 14);
+    for [address, size, _] in &mut entries {
+        // High enough for a size to pass 2^64.
+        *address += 2 * PAGE;
+        *size = (*size).min(address.wrapping_neg());
+    }
+    let last = entries.len() - 1;
+    let mut near = rng.below(last);
+    let mut place = |rng: &mut Rng| {
+        let any = rng.below(last + 1);
+        let at = rng.pick(&[near, near + 1, last, any]).min(last);
+        near += rng.pick(&[0, 1, 1]);
+        at
+    };
+    // None of them mends the one before; a range past 2^64 passes the next address too.
+    let kept = rng.below(5);
+    if kept != 0 {
+        let at = place(rng).max(1);
+        let gap = entries[at][0] - entries[at - 1][0];
+        entries[at - 1][1] = gap + rng.pick(&[1, PAGE]);
+    }
+    if kept != 1 {
+        let at = place(rng);
+        entries[at][1] = entries[at][0].wrapping_neg() + rng.pick(&[1, PAGE]);
+    }
+    if kept != 2 {
+        entries[place(rng)][2] = 0;
+    }
+    entries
+}
+
 fn map(rng: &mut Rng, spoilt: usize) -> Given {
+    if spoilt > 0 && rng.chance(40) {
+        let bytes = entries_bytes(&several_broken(rng));
+        return lend(rng, bytes);
+    }
     let most = match rng.below(16) {
         0 => 40,
         1 | 2 => 0,

@@ -8,7 +8,7 @@ use ultra_model::tally::Tally;
 use ultra_model::{calls, reading};
 
 use crate::lent::Lent;
-use crate::tally::{self, ROWS, SHAPES};
+use crate::tally::{self, ALL, ROWS};
 
 pub struct Archive {
     start: Start,
@@ -33,7 +33,7 @@ impl Archive {
             model_out: Vec::new(),
             accepted: None,
             changed: false,
-            tally: Tally::new(ROWS, SHAPES),
+            tally: Tally::new(ROWS, ALL),
             verbose,
         }
     }
@@ -228,7 +228,7 @@ impl Bench for Archive {
                 model as u32,
             )));
         }
-        tally::answer(&mut self.tally, call, library, accepted);
+        tally::answer(&mut self.tally, call, library, &self.model, accepted);
         if call.changes() && library >> 32 == 0 {
             self.changed = true;
             self.accepted = None;

@@ -14,7 +14,7 @@ use ultra_model::generator::{number, DEFAULT_SEED};
 use ultra_model::tally::Tally;
 
 use crate::bench::Archive;
-use crate::tally::{ROWS, SHAPES};
+use crate::tally::{ALL, ROWS};
 
 const DEFAULT_INPUTS: u64 = 1_000_000;
 const DEFAULT_THREADS: u64 = 2;
@@ -165,7 +165,7 @@ fn part(run: Run) -> ExitCode {
     // No input from here on needs to be run.
     let stop = AtomicU64::new(run.to);
     let at: Vec<AtomicU64> = (0..run.threads).map(|_| AtomicU64::new(IDLE)).collect();
-    let mut total = Tally::new(ROWS, SHAPES);
+    let mut total = Tally::new(ROWS, ALL);
 
     thread::scope(|scope| {
         let workers: Vec<_> = (0..run.threads)

@@ -8,10 +8,10 @@
 //! ```
 //!
 //! It is built with the feature `archive`, and the folder of the archive in
-//! `ULTRA_ARCHIVE_DIR`. A few thousand inputs are needed to meet every number.
+//! `ULTRA_ARCHIVE_DIR`. About thirty thousand inputs are needed to meet every number and shape.
 //!
-//! Status 0: no difference, and every number that a call can give was met. 1: a difference,
-//! a fault of the library, a call without end, or a number never met. 2: wrong usage.
+//! Status 0: no difference, and every number that a call can give and every shape was met. 1: a
+//! difference, a fault of the library, a call without end, or something never met. 2: wrong usage.
 
 #![forbid(unsafe_code)]
 

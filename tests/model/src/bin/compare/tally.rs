@@ -2,7 +2,9 @@
 
 use ultra_model::generator::call::{Call, CALLS};
 use ultra_model::generator::given::Given;
-use ultra_model::tally::{adding, asking, Row, Tally, BEGINNING, COPYING, NONE, READING, STEPPING};
+use ultra_model::tally::{
+    adding, asking, joined, maps, Row, Tally, BEGINNING, COPYING, NONE, READING, STEPPING,
+};
 
 /// In the order of [`Call::id`]. The command line has no number. A platform has no 12 of its
 /// own toward C: no member can be left absent.
@@ -37,8 +39,16 @@ ultra_model::shapes! {
     EmptySliceNotNull: "empty slices lent with an address",
 }
 
+/// The names of all shapes.
+pub const ALL: &[&str] = &joined::<{ SHAPES.len() + maps::SHAPES.len() }>(&[SHAPES, maps::SHAPES]);
+
 fn met(tally: &mut Tally, shape: Shape) {
     tally.shape(shape as usize);
+}
+
+fn of_map(tally: &mut Tally, met: Vec<usize>) {
+    met.into_iter()
+        .for_each(|place| tally.shape(SHAPES.len() + place));
 }
 
 pub fn buffer(tally: &mut Tally, given: &Given) {
@@ -59,8 +69,8 @@ pub fn slice(tally: &mut Tally, given: &Given) {
     }
 }
 
-/// Counts an answer that both sides gave.
-pub fn answer(tally: &mut Tally, call: &Call, answer: u64, buffer_accepted: bool) {
+/// Counts an answer that both sides gave; a reading's is about this buffer.
+pub fn answer(tally: &mut Tally, call: &Call, answer: u64, buf: &[u8], buffer_accepted: bool) {
     let (number, value) = (answer >> 32, answer as u32);
     if let Call::CommandLine = call {
         // The text's start stands in the number's place.
@@ -74,6 +84,10 @@ pub fn answer(tally: &mut Tally, call: &Call, answer: u64, buffer_accepted: bool
     }
     tally.answer(call.id(), number, call.adds() && buffer_accepted);
     match (call, number, value) {
+        (Call::Read, ..) => of_map(tally, maps::read(buf, number, value as usize)),
+        (Call::AddMap { entries }, ..) if buffer_accepted => {
+            of_map(tally, maps::given(&entries.bytes, number));
+        }
         (Call::Step { .. }, 0, 0) => met(tally, Shape::StepToTheEnd),
         // A count above 1,024 is 3 at 0.
         (Call::Attribute { .. }, 3, 1..) => met(tally, Shape::IndexPastTheCount),

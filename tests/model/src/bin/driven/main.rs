@@ -12,7 +12,7 @@
 //! one on the program's own memory. Malformed frames are among the calls, and inputs that end the
 //! program have a process each. The frames of an input on which the two differ are left in
 //! `target/driven`, below the current folder; the program can be given them again. About
-//! thirty thousand inputs are needed to meet everything that is asked for.
+//! fifty thousand inputs are needed to meet everything that is asked for.
 //!
 //! Status 0: no difference, and every number and shape was met. 1: a difference, another end of
 //! the program than a success, a call without an answer, or something never met. 2: wrong usage.

@@ -8,7 +8,7 @@ use ultra_model::driving::table::*;
 use ultra_model::driving::Answer;
 use ultra_model::format::{self, MODULE_NAME_WIDTH, NAME_WIDTH, PATH_WIDTH};
 use ultra_model::tally::{
-    adding, asking, set, Row, Tally, BEGINNING, COPYING, NONE, READING, STEPPING,
+    adding, asking, joined, maps, set, Row, Tally, BEGINNING, COPYING, NONE, READING, STEPPING,
 };
 
 use crate::spelling::Asked;
@@ -197,26 +197,22 @@ impl Counted for writings::Shape {
     }
 }
 
-/// The names of all shapes.
-pub const ALL: &[&str] = &joined();
+/// A shape of a map, by its place among the names of those.
+#[derive(Clone, Copy)]
+struct OfMap(usize);
 
-const fn joined() -> [&'static str; SHAPES.len() + payloads::SHAPES.len() + writings::SHAPES.len()]
-{
-    let mut all = [""; SHAPES.len() + payloads::SHAPES.len() + writings::SHAPES.len()];
-    let mut at = 0;
-    let files = [SHAPES, payloads::SHAPES, writings::SHAPES];
-    let mut file = 0;
-    while file < files.len() {
-        let mut name = 0;
-        while name < files[file].len() {
-            all[at] = files[file][name];
-            at += 1;
-            name += 1;
-        }
-        file += 1;
+impl Counted for OfMap {
+    fn place(self) -> usize {
+        ALL.len() - maps::SHAPES.len() + self.0
     }
-    all
 }
+
+/// The names of all shapes.
+pub const ALL: &[&str] = &joined::<COUNT>(FILES);
+
+const FILES: &[&[&str]] = &[SHAPES, payloads::SHAPES, writings::SHAPES, maps::SHAPES];
+const COUNT: usize =
+    SHAPES.len() + payloads::SHAPES.len() + writings::SHAPES.len() + maps::SHAPES.len();
 
 /// A call that both sides made.
 pub struct Made<'a> {
@@ -271,6 +267,10 @@ pub fn count(tally: &mut Tally, made: &Made) {
         buffer(shapes, made);
     }
     match call {
+        READ => {
+            let start = made.value() as usize;
+            of_map(shapes, maps::read(made.before, made.number(), start));
+        }
         STEP => step(shapes, made),
         ATTRIBUTE => attribute(shapes, made),
         // A count above 1,024 is 3 at 0.
@@ -291,6 +291,10 @@ pub fn count(tally: &mut Tally, made: &Made) {
         ADD_MAP => {
             shapes.met_if(!made.given().len().is_multiple_of(8), Shape::MapBytesLeft);
             shapes.met_if(made.given().len() / 8 == NUMBERS_LIMIT, Shape::MapLongest);
+            // Maps given as bytes are counted toward C.
+            if made.accepted {
+                of_map(shapes, maps::given(made.given(), made.number()));
+            }
         }
         LIST => list(shapes, made),
         ADD_MODULES => several::count(shapes, made),
@@ -299,6 +303,10 @@ pub fn count(tally: &mut Tally, made: &Made) {
         _ => {}
     }
     shapes.met_if(has_wide_number(made.asked), Shape::NumberWide);
+}
+
+fn of_map(shapes: &mut Shapes, met: Vec<usize>) {
+    met.into_iter().for_each(|place| shapes.met(OfMap(place)));
 }
 
 fn buffer(shapes: &mut Shapes, made: &Made) {
