@@ -1,15 +1,15 @@
--- What the five tests make is the number of the members; and the tests of a command line's and a map's form.
-use Prim.Native.Nat.{ℕ, _+_, _-_, _*_, _%_}
+-- What the five tests make is the number of the members; and the tests of a command line's form.
+use Prim.Native.Nat.{ℕ, _+_, _-_}
 use mathlib.Core.Path.{_≡_, refl, ap, _∙_}
 use mathlib.Core.Bool.{Bool, true, false}
 use mathlib.Core.List.{List}
 use native.Mathlib.Omega.{arith}
-use borrow.Author.Tests.{lt-ltb, le-leb, eq-eqb}
+use borrow.Author.Tests.{lt-ltb, le-leb}
 use lib.ListN.{length}
-use lib.Dec.{leb, eqb}
+use lib.Dec.{leb}
 use Rattle.refusals.specs.Refusals.{unless, FORM}
 use Rattle.ultra_format.specs.Members.{sizeSuits, values, every, ascii, asciiText, texts, ranges, ordered, memberCheck, bodyCheck}
-use Rattle.ultra_format.specs.Contexts.{Entry, Body}
+use Rattle.ultra_format.specs.Contexts.{Body}
 use Rattle.ultra_format.specs.Plain.{roundedUp, writtenSize}
 use Rattle.ultra_format.specs.Additions.{givenCheck}
 use Rattle.ultra_rules.proofs.Judged as stored
@@ -31,7 +31,3 @@ line-form t = le-leb 16 (8 + roundedUp (length t + 1)) (omega arith)
 pub line-text : (t : List ℕ) → every ascii t ≡ asciiText (8 + roundedUp (length t + 1) - 8) t
 unfolding asciiText
 line-text t = rw (lt-ltb (length t) (8 + roundedUp (length t + 1) - 8) (omega arith))
-
--- a map fills its size
-pub map-form : (es : List Entry) → eqb (8 + 24 * length es) (8 + 24 * length es) ≡ true
-map-form es = eq-eqb (8 + 24 * length es) (8 + 24 * length es) refl

@@ -1,4 +1,4 @@
-// The memory map: three numbers to an entry. Numbers left over are no entry; `check` answers for them before all else.
+// The memory map: three numbers to an entry, or 24 bytes. What is left over is no entry and is answered for before all else.
 ghost use mathlib.Core.Path.{_≡_};
 ghost use Rattle.ultra_format.specs.Additions.{Addition, mapOf, mapFormed, givenCheck, additionCheck};
 use ultra_layout::entry;
@@ -7,11 +7,10 @@ use ultra_layout::entry;
 pub fn check(numbers: &[u64]) -> u16
     ensures { λ r. ⌜ r ≡ additionCheck (Addition.addMap (now (numbers .entry))) ⌝ }
 {
-    let form = numbers.len() % 3 == 0;
-    let value = ultra_map::numbers::all_typed(numbers);
-    let range = ultra_map::numbers::all_fit(numbers);
-    let order = ultra_map::numbers::all_ordered(numbers);
-    ultra_rules::first_broken(form, value, true, range, order)
+    if numbers.len() % 3 != 0 {
+        return refusals::FORM;
+    }
+    ultra_map::numbers::check(numbers)
 }
 
 // The same of a map given as bytes: "12 for a map not of 24n bytes".

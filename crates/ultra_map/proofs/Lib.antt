@@ -1,3 +1,3 @@
 pub mod Entries
-pub mod Sound
+pub mod OnePass
 pub mod Triples

@@ -1,67 +1,67 @@
 -- Laws of the entries that a map's numbers give, one entry at a time.
-use Prim.Native.Nat.{ℕ, _+_, _-_, _≤_, _<_}
-use mathlib.Core.Path.{_≡_, refl}
-use mathlib.Core.Bool.{Bool, true, false, _&&_}
+use Prim.Native.Nat.{ℕ, suc, _+_, _-_, _≤_, _<_}
+use mathlib.Core.Path.{_≡_, refl, ap, _∙_}
+use mathlib.Core.Bool.{Bool, true, false}
 use mathlib.Core.List.{List, [], _∷_}
 use native.Mathlib.Omega.{arith}
+use borrow.Author.Tests.{eqb-true, eqb-false}
 use lib.ListN.{length, getD, drop, length-drop}
-use lib.Dec.{leb}
+use lib.Dec.{eqb}
 use Rattle.ultra_format.specs.Contexts.{Entry}
-use Rattle.ultra_format.specs.Members.{entriesOrdered}
 use Rattle.ultra_format.specs.Additions.{entriesGiven}
 use Rattle.ultra_rules.proofs.Every.{next-left}
+use Rattle.ultra_map.specs.OnePass.{WholeTriples, givenFrom}
+use Rattle.ultra_map.proofs.OnePass.{none, pairless, Addresses}
 
 -- the entry in the three numbers from `o` on
 abbrev pub entryFrom : List ℕ → ℕ → Entry
 entryFrom ns o = record { address = getD ns o 0; size = getD ns (o + 1) 0; entryType = getD ns (o + 2) 0 }
 
--- the invariant of a loop over the entries: `left` numbers are left, from `o` on, and `test` says of all entries what it says of those
-abbrev pub Rest : (List Entry → Bool) → List ℕ → ℕ → ℕ → Type 0
-Rest test ns o left = (o + left ≡ length ns) × (test (entriesGiven ns) ≡ test (entriesGiven (drop o ns)))
-
--- fewer than three numbers are no entry
-few : (l : List ℕ) → length l ≤ 2 → entriesGiven l ≡ []
-unfolding entriesGiven
-few [] h = refl
-few (a ∷ []) h = refl
-few (a ∷ s ∷ []) h = refl
-few (a ∷ s ∷ t ∷ l) h = absurd (omega arith)
-
-module _ (ns : List ℕ) (o left : ℕ) (h : o + left ≡ length ns) where
-  pub entry-none : left ≤ 2 → entriesGiven (drop o ns) ≡ []
-  entry-none q = few (drop o ns) (omega (arith, length-drop o ns))
-
-  pub entry-next : 2 < left → entriesGiven (drop o ns) ≡ entryFrom ns o ∷ entriesGiven (drop (o + 3) ns)
+module _ (ns : List ℕ) (o : ℕ) where
+  pub first-entry : o + 3 ≤ length ns → givenFrom ns o ≡ entryFrom ns o ∷ givenFrom ns (o + 3)
   unfolding entriesGiven
-  entry-next q =
+  first-entry h =
       let e₁ : o + 1 + 1 ≡ o + 2 = omega arith in
       let e₂ : o + 2 + 1 ≡ o + 3 = omega arith in
       let n₁ = next-left ns (o + 1) (omega arith) in
       let n₂ = next-left ns (o + 2) (omega arith) in
       rw (next-left ns o (omega arith), n₁, e₁, n₂, e₂)
 
--- "each entry's address is at least the sum of address and size of the one before": the entry at `o` is the one before
-abbrev pub endsBy : List ℕ → ℕ → Bool
-endsBy ns o = leb (getD ns o 0 + getD ns (o + 1) 0) (getD ns (o + 3) 0)
+  pub no-entry : length ns ≤ o → givenFrom ns o ≡ []
+  unfolding entriesGiven
+  no-entry h = go (drop o ns) (omega (arith, length-drop o ns))
+    where
+      go : (l : List ℕ) → length l ≡ 0 → entriesGiven l ≡ []
+      go [] e = refl
+      go (n ∷ l) e = absurd (omega arith)
 
--- one entry, or none
-few-ordered : (l : List ℕ) → length l ≤ 5 → entriesOrdered (entriesGiven l) ≡ true
-unfolding entriesOrdered entriesGiven
-few-ordered [] h = refl
-few-ordered (a ∷ []) h = refl
-few-ordered (a ∷ s ∷ []) h = refl
-few-ordered (a ∷ s ∷ t ∷ l) h = rw (few l (omega arith))
+last-entry : (ns : List ℕ) (o : ℕ) → o + 3 ≡ length ns → givenFrom ns o ≡ entryFrom ns o ∷ []
+last-entry ns o h = first-entry ns o (omega arith) ∙ ap (λ (es : List Entry). entryFrom ns o ∷ es) (no-entry ns (o + 3) (omega arith))
 
-module _ (ns : List ℕ) (o left : ℕ) (h : o + left ≡ length ns) where
-  ordered-next : 5 < left → entriesOrdered (entriesGiven (drop o ns)) ≡ (endsBy ns o && entriesOrdered (entriesGiven (drop (o + 3) ns)))
-  unfolding entriesOrdered
-  ordered-next q = rw (entry-next ns o left h (omega arith), entry-next ns (o + 3) (left - 3) (omega arith) (omega arith))
+pub one-entry : (ns : List ℕ) (o : ℕ) → o + 3 ≡ length ns → length (givenFrom ns o) ≤ 1
+one-entry ns o h = omega (arith, ap length (last-entry ns o h))
 
-  pub ordered-stop : 5 < left → endsBy ns o ≡ false → entriesOrdered (entriesGiven (drop o ns)) ≡ false
-  ordered-stop q e = rw (ordered-next q, e)
+-- what a place says of the entries left there
+module _ (ns : List ℕ) (o : ℕ) where
+  pub is-none : WholeTriples o (length ns) → eqb o (length ns) ≡ none (givenFrom ns o)
+  is-none w = go (eqb o (length ns)) refl
+    where
+      go : (t : Bool) → eqb o (length ns) ≡ t → t ≡ none (givenFrom ns o)
+      go true e = let h = eqb-true o (length ns) e in rw (no-entry ns o (omega arith))
+      go false e = let h = eqb-false o (length ns) e in rw (first-entry ns o (omega (arith, w .0, w .1)))
 
-  pub ordered-rest : 5 < left → endsBy ns o ≡ true → entriesOrdered (entriesGiven (drop o ns)) ≡ entriesOrdered (entriesGiven (drop (o + 3) ns))
-  ordered-rest q e = rw (ordered-next q, e)
+  pub is-pairless : (last : ℕ) → last + 3 ≡ length ns → WholeTriples o last → eqb o last ≡ pairless (givenFrom ns o)
+  is-pairless last m w = go (eqb o last) refl
+    where
+      go : (t : Bool) → eqb o last ≡ t → t ≡ pairless (givenFrom ns o)
+      go true e = let h = eqb-true o last e in rw (last-entry ns o (omega arith))
+      go false e =
+          let h = eqb-false o last e in
+          rw (first-entry ns o (omega (arith, w .0, w .1)), first-entry ns (o + 3) (omega (arith, w .0, w .1)))
 
-  pub ordered-last : left ≤ 5 → entriesOrdered (entriesGiven (drop o ns)) ≡ true
-  ordered-last q = few-ordered (drop o ns) (omega (arith, length-drop o ns))
+pub addresses : (ns : List ℕ) → ((i : ℕ) → getD ns i 0 < 18446744073709551616) → Addresses (entriesGiven ns)
+unfolding entriesGiven
+addresses [] k = refl
+addresses (a ∷ []) k = refl
+addresses (a ∷ s ∷ []) k = refl
+addresses (a ∷ s ∷ t ∷ ns) k = (k 0, addresses ns (λ i. k (suc (suc (suc i)))))

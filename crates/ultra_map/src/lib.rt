@@ -1,5 +1,7 @@
-// The rules on a memory map's entries, 13, 15 and 16: `count` entries from `at` on in a buffer here, numbers given in `numbers`.
+// The rules on a memory map's entries, 13, 15 and 16: entries in a buffer here, numbers given in `numbers`.
 // "within a map, all entries are tried for 13, then 15, then 16"
+// One pass tells the first of the three. An entry that has a type and ends by the next one's address breaks none of them; from the first
+// that does not, types and ranges are left to try, and from the first range past 2^64 on, types alone.
 pub mod numbers;
 
 ghost use mathlib.Core.Path.{_≡_};
@@ -9,7 +11,7 @@ ghost use Rattle.ultra_format.specs.Contexts.{Body};
 ghost use Rattle.ultra_format.specs.Members.{bodyCheck, every, entryTyped, entryFits};
 ghost use Rattle.ultra_format.specs.Decoding.{entryAt, entriesAt};
 ghost use Rattle.ultra_layout.specs.Sizes.{entrySize};
-ghost use Rattle.ultra_map.specs.Sound.{endsByNext, sound};
+ghost use Rattle.ultra_map.specs.OnePass.{WholeEntries, entriesTo, endsByNext, leftBy, settled, typedAndFits};
 use ultra_layout::entry;
 
 // Whether the entry's type, in all its 64 bits, is not 0.
@@ -29,84 +31,76 @@ fn entry_fits(bytes: &[u8], at: usize) -> bool
 
 fn ends_by_next(bytes: &[u8], at: usize) -> bool
     requires { ⌜ at + 24 + entrySize ≤ length (now bytes) ⌝ }
-    ensures { λ r. ⌜ r ≡ endsByNext (now (bytes .entry)) at ⌝ }
+    ensures { λ r. ⌜ r ≡ endsByNext (entryAt (now (bytes .entry)) at) (entryAt (now (bytes .entry)) (at + 24)) ⌝ }
 {
     let next = entry::address(bytes, at + entry::WIDTH);
     address_ranges::ends_by(entry::address(bytes, at), entry::size(bytes, at), next)
 }
 
-fn all_typed(bytes: &[u8], at: usize, count: usize) -> bool
-    requires { ⌜ at + 24 * count ≤ length (now bytes) ⌝ }
-    ensures { λ r. ⌜ r ≡ every entryTyped (entriesAt (now (bytes .entry)) at count) ⌝ }
+// Of the entries from `at` to the last one, at `last`: where the first is that has no type or passes the next one's address, or `last`,
+// which has no next one.
+fn first_unsettled(bytes: &[u8], at: usize, last: usize) -> usize
+    requires { ⌜ WholeEntries at last × (last + 24 ≤ length (now bytes)) ⌝ }
+    ensures { λ r. ⌜ WholeEntries r last × (entriesTo (now (bytes .entry)) (last + 24) r ≡ leftBy settled (entriesTo (now (bytes .entry)) (last + 24) at)) ⌝ }
 {
     let mut place = at;
-    let mut left = count;
-    while 0 < left {
+    while place < last {
         if !entry_typed(bytes, place) {
-            return false;
-        }
-        place += entry::WIDTH;
-        left -= 1;
-    }
-    true
-}
-
-fn all_fit(bytes: &[u8], at: usize, count: usize) -> bool
-    requires { ⌜ at + 24 * count ≤ length (now bytes) ⌝ }
-    ensures { λ r. ⌜ r ≡ every entryFits (entriesAt (now (bytes .entry)) at count) ⌝ }
-{
-    let mut place = at;
-    let mut left = count;
-    while 0 < left {
-        if !entry_fits(bytes, place) {
-            return false;
-        }
-        place += entry::WIDTH;
-        left -= 1;
-    }
-    true
-}
-
-// Whether no entry breaks 13, 15 or 16, in one pass over the entries.
-fn all_sound(bytes: &[u8], at: usize, count: usize) -> bool
-    requires { ⌜ at + 24 * count ≤ length (now bytes) ⌝ }
-    ensures { λ r. ⌜ r ≡ sound (entriesAt (now (bytes .entry)) at count) ⌝ }
-{
-    let mut place = at;
-    let mut left = count;
-    while 1 < left {
-        if !entry_typed(bytes, place) {
-            return false;
+            return place;
         }
         if !ends_by_next(bytes, place) {
+            return place;
+        }
+        place += entry::WIDTH;
+    }
+    place
+}
+
+// Of the entries from `at` to `end`: where the first is that has no type or ends past 2^64, or `end`.
+fn first_unfit(bytes: &[u8], at: usize, end: usize) -> usize
+    requires { ⌜ WholeEntries at end × (end ≤ length (now bytes)) ⌝ }
+    ensures { λ r. ⌜ WholeEntries r end × (entriesTo (now (bytes .entry)) end r ≡ leftBy typedAndFits (entriesTo (now (bytes .entry)) end at)) ⌝ }
+{
+    let mut place = at;
+    while place < end {
+        if !entry_typed(bytes, place) {
+            return place;
+        }
+        if !entry_fits(bytes, place) {
+            return place;
+        }
+        place += entry::WIDTH;
+    }
+    place
+}
+
+fn all_typed(bytes: &[u8], at: usize, end: usize) -> bool
+    requires { ⌜ WholeEntries at end × (end ≤ length (now bytes)) ⌝ }
+    ensures { λ r. ⌜ r ≡ every entryTyped (entriesTo (now (bytes .entry)) end at) ⌝ }
+{
+    let mut place = at;
+    while place < end {
+        if !entry_typed(bytes, place) {
             return false;
         }
         place += entry::WIDTH;
-        left -= 1;
     }
-    if left == 0 {
-        return true;
-    }
-    if !entry_typed(bytes, place) {
-        return false;
-    }
-    entry_fits(bytes, place)
+    true
 }
 
-// The first of 13, 15 and 16 that the entries break, or 0: their number suits the size that they are written with. A map that breaks none
-// is gone over once; where one is broken, and neither 13 nor 15, it is 16.
+// The first of 13, 15 and 16 that the `count` entries from `at` on break, or 0. It is never 12: the size is that of so many entries.
+// Where an entry before the last is unsettled and none from it on breaks 13 or 15, it and the next are out of order.
 pub fn entries_check(bytes: &[u8], at: usize, count: usize) -> u16
     requires { ⌜ at + 24 * count ≤ length (now bytes) ⌝ }
     ensures { λ r. ⌜ r ≡ bodyCheck (8 + 24 * count) (Body.memoryMap (entriesAt (now (bytes .entry)) at count)) ⌝ }
 {
-    if all_sound(bytes, at, count) {
+    if count == 0 {
         return 0;
     }
-    if !all_typed(bytes, at, count) {
-        return refusals::VALUE;
-    }
-    if !all_fit(bytes, at, count) {
-        return refusals::RANGE;
-    }
-    refusals::ORDER
+    let last = at + entry::WIDTH * (count - 1);
+    let end = last + entry::WIDTH;
+    let unsettled = first_unsettled(bytes, at, last);
+    let unfit = first_unfit(bytes, unsettled, end);
+    let typed = all_typed(bytes, unfit, end);
+    ultra_rules::first_broken(true, typed, true, unfit == end, unsettled == last)
 }

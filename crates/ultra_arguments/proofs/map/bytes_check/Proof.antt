@@ -1,6 +1,4 @@
 -- `ultra_arguments::map::bytes_check` meets its contract: the entries that the numbers give are those in the bytes.
-use Prim.Native.Nat.{_+_, _*_, _/_}
-use mathlib.Core.Path.{_≡_, _∙_}
 use borrow.Author.Needs.{needs}
 use borrow.Author.Tests.{eq-eqb, ne-eqb}
 use Rattle.ultra_format.specs.Members.{bodyCheck}
