@@ -22,6 +22,7 @@ FEW, MORE = 2, 12
 HEADERS = {
     4: "| input | library | Rust | bare walk | using walk | library / Rust | goal 1.00 | library / bare | library / using |",
     3: "| input | library | Rust | unchecked C | library / Rust | goal 1.00 | library / unchecked |",
+    2: "| input | library | Rust | library / Rust | goal 1.00 |",
 }
 
 

@@ -14,7 +14,8 @@ pub fn compare(inputs: &[Input]) {
     for input in inputs {
         for call in Call::ALL.into_iter().filter(|call| call.takes(input)) {
             let (expected, expected_bytes) = outcome(call, input, Who::Model);
-            assert_eq!(expected >> 32, 0, "{} {}", call.name(), input.name);
+            let number = expected >> 32;
+            assert_eq!(number, input.refusal, "{} {}", call.name(), input.name);
             for &who in call.subjects() {
                 let (answer, bytes) = outcome(call, input, who);
                 let expected = match (call, who) {

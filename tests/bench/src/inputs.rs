@@ -1,13 +1,15 @@
 //! The inputs. They are laid out by the model's builder, and by hand where an attribute is
-//! of a type that is never added; never by the library.
+//! of a type that is never added or a map is refused; never by the library.
 
 use crate::records::{map_of, Add, COMMAND_LINE, FRAMEBUFFER, KERNEL, MODULES, PLATFORM};
 use crate::subjects::{add, Model, Subject};
 
 pub const ROOM: usize = 65_536;
 
-/// As many entries as fit after the head, a platform and a kernel.
-const MAP_THAT_FILLS: usize = (ROOM - 8 - 88 - 336 - 8) / 24;
+/// Where the entries of a map start that follows the head, a platform and a kernel.
+const ENTRIES: usize = 8 + 88 + 336 + 8;
+/// As many of them as fit.
+const MAP_THAT_FILLS: usize = (ROOM - ENTRIES) / 24;
 
 /// A buffer of the whole room, as the structures of C ask: aligned to 8 bytes.
 #[derive(Clone)]
@@ -37,6 +39,8 @@ pub struct Input {
     pub title: &'static str,
     pub context: Buffer,
     pub count: u32,
+    /// The number that reading refuses it with, or 0.
+    pub refusal: u64,
     pub plan: Plan,
 }
 
@@ -67,6 +71,7 @@ impl Input {
             title,
             count: count_of(&context),
             context,
+            refusal: 0,
             plan: Plan { from: None, adds },
         }
     }
@@ -75,6 +80,7 @@ impl Input {
 pub fn all() -> Vec<Input> {
     let ascending: Vec<u32> = (7..=1024).collect();
     let descending: Vec<u32> = ascending.iter().rev().copied().collect();
+    let last = MAP_THAT_FILLS - 1;
     vec![
         usual(),
         one_map(),
@@ -85,6 +91,12 @@ pub fn all() -> Vec<Input> {
             "1,024 types, shuffled",
             &shuffled(ascending.clone()),
         ),
+        refused("13-last", "2,712 ranges, 13 in the last entry", 13, last),
+        refused("15-last", "2,712 ranges, 15 in the last entry", 15, last),
+        refused("16-last", "2,712 ranges, 16 in the last pair", 16, last),
+        refused("13-first", "2,712 ranges, 13 in the first entry", 13, 0),
+        refused("15-first", "2,712 ranges, 15 in the first entry", 15, 0),
+        refused("16-first", "2,712 ranges, 16 in the first pair", 16, 1),
     ]
 }
 
@@ -108,6 +120,26 @@ fn one_map() -> Input {
         Add::Map(map_of(MAP_THAT_FILLS)),
     ];
     Input::built("map", "one map of 2,712 ranges", adds)
+}
+
+/// The one map, refused for one number of one entry: its type is 0, or its address is so high
+/// that the range passes 2^64, or lies below the end of the entry before. It is not built.
+fn refused(name: &'static str, title: &'static str, refusal: u64, entry: usize) -> Input {
+    let (number, value) = match refusal {
+        13 => (2, 0),
+        15 => (0, u64::MAX),
+        _ => (0, 0),
+    };
+    let mut input = Input {
+        name,
+        title,
+        refusal,
+        plan: Plan::default(),
+        ..one_map()
+    };
+    let at = ENTRIES + 24 * entry + 8 * number;
+    input.context.bytes_mut()[at..at + 8].copy_from_slice(&value.to_le_bytes());
+    input
 }
 
 /// Types 1 to 6 once each, then the 1,018 given, so that every question has an answer.
@@ -136,6 +168,7 @@ fn many(name: &'static str, title: &'static str, types: &[u32]) -> Input {
         title,
         count: count_of(&context),
         context,
+        refusal: 0,
         plan: Plan {
             from: Some(from),
             adds: rest(),

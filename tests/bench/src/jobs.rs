@@ -8,6 +8,8 @@ use crate::subjects::{add, Library, Model, Subject, Walk};
 #[derive(Clone, Copy, Debug, PartialEq, Eq)]
 pub enum Call {
     Read,
+    /// Reading a context that is refused: the walks do not refuse, so they have no part in it.
+    Refuse,
     Attribute,
     CopyMap,
     Build,
@@ -24,11 +26,18 @@ pub enum Who {
 }
 
 impl Call {
-    pub const ALL: [Call; 4] = [Call::Read, Call::Attribute, Call::CopyMap, Call::Build];
+    pub const ALL: [Call; 5] = [
+        Call::Read,
+        Call::Refuse,
+        Call::Attribute,
+        Call::CopyMap,
+        Call::Build,
+    ];
 
     pub fn name(self) -> &'static str {
         match self {
             Call::Read => "read",
+            Call::Refuse => "refuse",
             Call::Attribute => "attribute",
             Call::CopyMap => "copy",
             Call::Build => "build",
@@ -38,6 +47,7 @@ impl Call {
     pub fn title(self) -> &'static str {
         match self {
             Call::Read => "Reading (`ultra_read`)",
+            Call::Refuse => "Reading a map that is refused (`ultra_read`)",
             Call::Attribute => "The attribute at the last index (`ultra_attribute`)",
             Call::CopyMap => "Copying the map out (`ultra_copy_map`)",
             Call::Build => "Building (`ultra_begin`, `ultra_add_..`)",
@@ -46,12 +56,17 @@ impl Call {
 
     /// The other orders of types are there for reading alone.
     pub fn takes(self, input: &Input) -> bool {
-        self == Call::Read || !input.is_extra()
+        match self {
+            Call::Refuse => input.refusal != 0,
+            Call::Read => input.refusal == 0,
+            _ => input.refusal == 0 && !input.is_extra(),
+        }
     }
 
     pub fn subjects(self) -> &'static [Who] {
         match self {
             Call::Read => &[Who::Library, Who::Model, Who::Walk, Who::Use],
+            Call::Refuse => &[Who::Library, Who::Model],
             _ => &[Who::Library, Who::Model, Who::Walk],
         }
     }
@@ -113,7 +128,7 @@ fn by<S: Subject>(job: &mut Job, times: u64) -> u64 {
     let context = input.context.bytes();
     let target = job.target.bytes_mut();
     match job.call {
-        Call::Read => repeat(times, || S::read(black_box(context))),
+        Call::Read | Call::Refuse => repeat(times, || S::read(black_box(context))),
         Call::Attribute => {
             let last = u64::from(input.count) - 1;
             repeat(times, || S::attribute(black_box(context), black_box(last)))

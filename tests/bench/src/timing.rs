@@ -133,6 +133,10 @@ fn header(call: Call) {
             "| input | library | Rust | bare walk | using walk | library / Rust | goal 1.00 | library / bare | library / using |\n\
              |---|---|---|---|---|---|---|---|---|"
         }
+        Call::Refuse => {
+            "| input | library | Rust | library / Rust | goal 1.00 |\n\
+             |---|---|---|---|---|"
+        }
         _ => {
             "| input | library | Rust | unchecked C | library / Rust | goal 1.00 | library / unchecked |\n\
              |---|---|---|---|---|---|---|"
