@@ -3,7 +3,6 @@ use Prim.Native.Nat.{ℕ, zero, suc, _+_, _-_, _*_, _/_, _≤_}
 use mathlib.Core.Path.{_≡_, refl, ap}
 use mathlib.Core.List.{List, [], _∷_}
 use native.Mathlib.Omega.{arith}
-use borrow.Author.Tests.{eq-eqb, ne-eqb}
 use lib.Dec.{eqb}
 use lib.ListN.{length}
 use Rattle.byte_layout.specs.Stored.{Bytes}
@@ -12,8 +11,8 @@ use Rattle.ultra_format.specs.Contexts.{Body.memoryMap}
 use Rattle.ultra_format.specs.Members.{bodyCheck}
 use Rattle.ultra_format.specs.Decoding.{entryAt, entriesAt}
 use Rattle.ultra_format.proofs.Numbers.{length-entries}
-use Rattle.ultra_map.specs.OnePass.{WholeEntries, entriesTo}
-use Rattle.ultra_map.proofs.OnePass.{none, pairless, Addresses}
+use Rattle.ultra_map.specs.OnePass.{Whole, entriesTo}
+use Rattle.ultra_map.proofs.OnePass.{none, pairless, at-end, at-last, Addresses}
 
 pub none-at : (b : List ℕ) (o n : ℕ) → n ≡ 0 → entriesAt b o n ≡ []
 unfolding entriesAt
@@ -31,27 +30,14 @@ module _ (b : List ℕ) (end o : ℕ) where
   unfolding entriesAt
   first-entry h = let q : (end - o) / 24 ≡ suc ((end - (o + 24)) / 24) = omega arith in rw q
 
-  pub one-entry : end ≤ o + 24 → length (entriesTo b end o) ≤ 1
-  one-entry h = omega (arith, length-entries b o ((end - o) / 24))
+  pub is-none : Whole 24 o end → eqb o end ≡ none (entriesTo b end o)
+  is-none w = at-end o end (entriesTo b end o) (λ h. no-entry (omega arith)) (λ h. first-entry (omega (arith, w .0, w .1)))
 
--- what a place says of the entries left there
-module _ (b : List ℕ) (o : ℕ) where
-  pub is-none : (end : ℕ) → WholeEntries o end → eqb o end ≡ none (entriesTo b end o)
-  unfolding entriesAt
-  is-none end w = go ((end - o) / 24) refl
-    where
-      go : (n : ℕ) → (end - o) / 24 ≡ n → eqb o end ≡ none (entriesAt b o n)
-      go zero e = eq-eqb o end (omega (arith, w .0, w .1))
-      go (suc n) e = ne-eqb o end (λ h. omega arith)
-
-  pub is-pairless : (last : ℕ) → WholeEntries o last → eqb o last ≡ pairless (entriesTo b (last + 24) o)
-  unfolding entriesAt
-  is-pairless last w = go ((last + 24 - o) / 24) refl
-    where
-      go : (n : ℕ) → (last + 24 - o) / 24 ≡ n → eqb o last ≡ pairless (entriesAt b o n)
-      go zero e = absurd (omega (arith, w .0))
-      go (suc zero) e = eq-eqb o last (omega (arith, w .0, w .1))
-      go (suc (suc n)) e = ne-eqb o last (λ h. omega arith)
+pub is-pairless : (b : List ℕ) (last o : ℕ) → Whole 24 o last → eqb o last ≡ pairless (entriesTo b (last + 24) o)
+is-pairless b last o w =
+    at-last o last (first-entry b (last + 24) o (omega (arith, w .0)))
+    (at-end o last (entriesTo b (last + 24) (o + 24)) (λ h. no-entry b (last + 24) (o + 24) (omega arith))
+    (λ h. first-entry b (last + 24) (o + 24) (omega (arith, w .0, w .1))))
 
 pub addresses : (b : List ℕ) → Bytes b → (o n : ℕ) → Addresses (entriesAt b o n)
 unfolding entriesAt

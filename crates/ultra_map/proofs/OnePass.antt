@@ -4,7 +4,8 @@ use mathlib.Core.Path.{_≡_, refl, sym, ap, _∙_}
 use mathlib.Core.Bool.{Bool, true, false, _&&_}
 use mathlib.Core.List.{List, [], _∷_}
 use native.Mathlib.Omega.{arith}
-use borrow.Author.Tests.{leb-true, le-leb, eq-eqb}
+use borrow.Author.Tests.{leb-true, le-leb, eq-eqb, eqb-true, eqb-false}
+use lib.Dec.{eqb}
 use lib.ListN.{length}
 use Rattle.ultra_format.specs.Contexts.{Entry, Body.memoryMap}
 use Rattle.ultra_format.specs.Members.{every, entryTyped, entryFits, entriesOrdered, sizeSuits, values, texts, ranges, ordered, memberCheck, bodyCheck}
@@ -42,11 +43,9 @@ module _ {l m r : List Entry} {e n : Entry} (first : l ≡ e ∷ m) (second : m 
   unfolding leftBy
   is-settled t o = rw (first, second, t, o)
 
-pub last-left : (l : List Entry) → length l ≤ 1 → leftBy settled l ≡ l
+pub last-left : {l m : List Entry} {e : Entry} → l ≡ e ∷ m → m ≡ [] → leftBy settled l ≡ l
 unfolding leftBy
-last-left [] h = refl
-last-left (e ∷ []) h = refl
-last-left (e ∷ n ∷ l) h = absurd (omega arith)
+last-left first no-second = rw (first, no-second)
 
 module _ {l m : List Entry} {e : Entry} (first : l ≡ e ∷ m) where
   pub has-no-type : entryTyped e ≡ false → leftBy typedAndFits l ≡ l
@@ -64,6 +63,21 @@ module _ {l m : List Entry} {e : Entry} (first : l ≡ e ∷ m) where
 pub none-fit : {l : List Entry} → l ≡ [] → leftBy typedAndFits l ≡ l
 unfolding leftBy
 none-fit e = rw e
+
+-- ---- what a place says of the entries left there: at the end there are none, and at the last there is no second
+pub at-end : (o end : ℕ) (l : List Entry) {e : Entry} {m : List Entry} → (o ≡ end → l ≡ []) → ((o ≡ end → ⊥) → l ≡ e ∷ m) → eqb o end ≡ none l
+at-end o end l empty first = go (eqb o end) refl
+  where
+    go : (t : Bool) → eqb o end ≡ t → t ≡ none l
+    go true h = rw (empty (eqb-true o end h))
+    go false h = rw (first (eqb-false o end h))
+
+second-none : (e : Entry) (m : List Entry) → none m ≡ pairless (e ∷ m)
+second-none e [] = refl
+second-none e (n ∷ m) = refl
+
+pub at-last : (o last : ℕ) {l m : List Entry} {e : Entry} → l ≡ e ∷ m → eqb o last ≡ none m → eqb o last ≡ pairless l
+at-last o last {l} {m} {e} first h = h ∙ second-none e m ∙ ap pairless (sym first)
 
 -- ---- what is left starts with an entry that fails the test
 abbrev Stopped : (Entry → List Entry → Bool) → List Entry → Type 0

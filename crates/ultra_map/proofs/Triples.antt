@@ -1,17 +1,15 @@
 -- Laws of the entries that a map's numbers give, one entry at a time.
 use Prim.Native.Nat.{ℕ, suc, _+_, _-_, _≤_, _<_}
-use mathlib.Core.Path.{_≡_, refl, ap, _∙_}
-use mathlib.Core.Bool.{Bool, true, false}
+use mathlib.Core.Path.{_≡_, refl}
 use mathlib.Core.List.{List, [], _∷_}
 use native.Mathlib.Omega.{arith}
-use borrow.Author.Tests.{eqb-true, eqb-false}
 use lib.ListN.{length, getD, drop, length-drop}
 use lib.Dec.{eqb}
 use Rattle.ultra_format.specs.Contexts.{Entry}
 use Rattle.ultra_format.specs.Additions.{entriesGiven}
 use Rattle.ultra_rules.proofs.Every.{next-left}
-use Rattle.ultra_map.specs.OnePass.{WholeTriples, givenFrom}
-use Rattle.ultra_map.proofs.OnePass.{none, pairless, Addresses}
+use Rattle.ultra_map.specs.OnePass.{Whole, givenFrom}
+use Rattle.ultra_map.proofs.OnePass.{none, pairless, at-end, at-last, Addresses}
 
 -- the entry in the three numbers from `o` on
 abbrev pub entryFrom : List ℕ → ℕ → Entry
@@ -35,29 +33,13 @@ module _ (ns : List ℕ) (o : ℕ) where
       go [] e = refl
       go (n ∷ l) e = absurd (omega arith)
 
-last-entry : (ns : List ℕ) (o : ℕ) → o + 3 ≡ length ns → givenFrom ns o ≡ entryFrom ns o ∷ []
-last-entry ns o h = first-entry ns o (omega arith) ∙ ap (λ (es : List Entry). entryFrom ns o ∷ es) (no-entry ns (o + 3) (omega arith))
+  pub is-none : Whole 3 o (length ns) → eqb o (length ns) ≡ none (givenFrom ns o)
+  is-none w = at-end o (length ns) (givenFrom ns o) (λ h. no-entry (omega arith)) (λ h. first-entry (omega (arith, w .0, w .1)))
 
-pub one-entry : (ns : List ℕ) (o : ℕ) → o + 3 ≡ length ns → length (givenFrom ns o) ≤ 1
-one-entry ns o h = omega (arith, ap length (last-entry ns o h))
-
--- what a place says of the entries left there
-module _ (ns : List ℕ) (o : ℕ) where
-  pub is-none : WholeTriples o (length ns) → eqb o (length ns) ≡ none (givenFrom ns o)
-  is-none w = go (eqb o (length ns)) refl
-    where
-      go : (t : Bool) → eqb o (length ns) ≡ t → t ≡ none (givenFrom ns o)
-      go true e = let h = eqb-true o (length ns) e in rw (no-entry ns o (omega arith))
-      go false e = let h = eqb-false o (length ns) e in rw (first-entry ns o (omega (arith, w .0, w .1)))
-
-  pub is-pairless : (last : ℕ) → last + 3 ≡ length ns → WholeTriples o last → eqb o last ≡ pairless (givenFrom ns o)
-  is-pairless last m w = go (eqb o last) refl
-    where
-      go : (t : Bool) → eqb o last ≡ t → t ≡ pairless (givenFrom ns o)
-      go true e = let h = eqb-true o last e in rw (last-entry ns o (omega arith))
-      go false e =
-          let h = eqb-false o last e in
-          rw (first-entry ns o (omega (arith, w .0, w .1)), first-entry ns (o + 3) (omega (arith, w .0, w .1)))
+pub is-pairless : (ns : List ℕ) (o last : ℕ) → last + 3 ≡ length ns → Whole 3 o last → eqb o last ≡ pairless (givenFrom ns o)
+is-pairless ns o last m w =
+    at-last o last (first-entry ns o (omega (arith, w .0)))
+    (at-end o last (givenFrom ns (o + 3)) (λ h. no-entry ns (o + 3) (omega arith)) (λ h. first-entry ns (o + 3) (omega (arith, w .0, w .1))))
 
 pub addresses : (ns : List ℕ) → ((i : ℕ) → getD ns i 0 < 18446744073709551616) → Addresses (entriesGiven ns)
 unfolding entriesGiven

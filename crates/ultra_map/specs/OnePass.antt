@@ -2,7 +2,7 @@
 -- Serves the library's own functions and proofs: no published contract or promise rests on it.
 use Prim.Native.Nat.{ℕ, _-_, _/_, _%_, _≤_}
 use mathlib.Core.Path.{_≡_}
-use mathlib.Core.Bool.{Bool, true, false, _&&_}
+use mathlib.Core.Bool.{Bool, false, _&&_}
 use mathlib.Core.List.{List, [], _∷_}
 use lib.ListN.{drop}
 use Rattle.address_ranges.specs.Ranges.{endsBy}
@@ -12,11 +12,8 @@ use Rattle.ultra_format.specs.Decoding.{pick, entriesAt}
 use Rattle.ultra_format.specs.Additions.{entriesGiven}
 
 -- from `o` to `end` there are whole entries: of 24 bytes each, or of three numbers
-abbrev pub WholeEntries : ℕ → ℕ → Type 0
-WholeEntries o end = (o ≤ end) × ((end - o) % 24 ≡ 0)
-
-abbrev pub WholeTriples : ℕ → ℕ → Type 0
-WholeTriples o end = (o ≤ end) × ((end - o) % 3 ≡ 0)
+abbrev pub Whole : ℕ → ℕ → ℕ → Type 0
+Whole width o end = (o ≤ end) × ((end - o) % width ≡ 0)
 
 -- the entries in the bytes from `o` to `end`; those in the numbers from `o` on
 abbrev pub entriesTo : List ℕ → ℕ → ℕ → List Entry

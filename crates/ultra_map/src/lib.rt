@@ -11,7 +11,7 @@ ghost use Rattle.ultra_format.specs.Contexts.{Body};
 ghost use Rattle.ultra_format.specs.Members.{bodyCheck, every, entryTyped, entryFits};
 ghost use Rattle.ultra_format.specs.Decoding.{entryAt, entriesAt};
 ghost use Rattle.ultra_layout.specs.Sizes.{entrySize};
-ghost use Rattle.ultra_map.specs.OnePass.{WholeEntries, entriesTo, endsByNext, leftBy, settled, typedAndFits};
+ghost use Rattle.ultra_map.specs.OnePass.{Whole, entriesTo, endsByNext, leftBy, settled, typedAndFits};
 use ultra_layout::entry;
 
 // Whether the entry's type, in all its 64 bits, is not 0.
@@ -40,8 +40,8 @@ fn ends_by_next(bytes: &[u8], at: usize) -> bool
 // Of the entries from `at` to the last one, at `last`: where the first is that has no type or passes the next one's address, or `last`,
 // which has no next one.
 fn first_unsettled(bytes: &[u8], at: usize, last: usize) -> usize
-    requires { ⌜ WholeEntries at last × (last + 24 ≤ length (now bytes)) ⌝ }
-    ensures { λ r. ⌜ WholeEntries r last × (entriesTo (now (bytes .entry)) (last + 24) r ≡ leftBy settled (entriesTo (now (bytes .entry)) (last + 24) at)) ⌝ }
+    requires { ⌜ Whole 24 at last × (last + 24 ≤ length (now bytes)) ⌝ }
+    ensures { λ r. ⌜ Whole 24 r last × (entriesTo (now (bytes .entry)) (last + 24) r ≡ leftBy settled (entriesTo (now (bytes .entry)) (last + 24) at)) ⌝ }
 {
     let mut place = at;
     while place < last {
@@ -58,8 +58,8 @@ fn first_unsettled(bytes: &[u8], at: usize, last: usize) -> usize
 
 // Of the entries from `at` to `end`: where the first is that has no type or ends past 2^64, or `end`.
 fn first_unfit(bytes: &[u8], at: usize, end: usize) -> usize
-    requires { ⌜ WholeEntries at end × (end ≤ length (now bytes)) ⌝ }
-    ensures { λ r. ⌜ WholeEntries r end × (entriesTo (now (bytes .entry)) end r ≡ leftBy typedAndFits (entriesTo (now (bytes .entry)) end at)) ⌝ }
+    requires { ⌜ Whole 24 at end × (end ≤ length (now bytes)) ⌝ }
+    ensures { λ r. ⌜ Whole 24 r end × (entriesTo (now (bytes .entry)) end r ≡ leftBy typedAndFits (entriesTo (now (bytes .entry)) end at)) ⌝ }
 {
     let mut place = at;
     while place < end {
@@ -75,7 +75,7 @@ fn first_unfit(bytes: &[u8], at: usize, end: usize) -> usize
 }
 
 fn all_typed(bytes: &[u8], at: usize, end: usize) -> bool
-    requires { ⌜ WholeEntries at end × (end ≤ length (now bytes)) ⌝ }
+    requires { ⌜ Whole 24 at end × (end ≤ length (now bytes)) ⌝ }
     ensures { λ r. ⌜ r ≡ every entryTyped (entriesTo (now (bytes .entry)) end at) ⌝ }
 {
     let mut place = at;

@@ -5,12 +5,12 @@ ghost use lib.ListN.{length};
 ghost use Rattle.ultra_format.specs.Contexts.{Body};
 ghost use Rattle.ultra_format.specs.Members.{bodyCheck, every, entryTyped};
 ghost use Rattle.ultra_format.specs.Additions.{entriesGiven};
-ghost use Rattle.ultra_map.specs.OnePass.{WholeTriples, givenFrom, leftBy, settled, typedAndFits};
+ghost use Rattle.ultra_map.specs.OnePass.{Whole, givenFrom, leftBy, settled, typedAndFits};
 
 // Where the first entry is that has no type or passes the next one's address, or `last`, where the last one is.
 fn first_unsettled(numbers: &[u64], last: usize) -> usize
-    requires { ⌜ WholeTriples 0 last × (last + 3 ≡ length (now numbers)) ⌝ }
-    ensures { λ r. ⌜ WholeTriples r last × (givenFrom (now (numbers .entry)) r ≡ leftBy settled (entriesGiven (now (numbers .entry)))) ⌝ }
+    requires { ⌜ Whole 3 0 last × (last + 3 ≡ length (now numbers)) ⌝ }
+    ensures { λ r. ⌜ Whole 3 r last × (givenFrom (now (numbers .entry)) r ≡ leftBy settled (entriesGiven (now (numbers .entry)))) ⌝ }
 {
     let mut place = 0;
     while place < last {
@@ -27,8 +27,8 @@ fn first_unsettled(numbers: &[u64], last: usize) -> usize
 
 // Of the entries from `at` on: where the first is that has no type or ends past 2^64, or the end of the numbers.
 fn first_unfit(numbers: &[u64], at: usize) -> usize
-    requires { ⌜ WholeTriples at (length (now numbers)) ⌝ }
-    ensures { λ r. ⌜ WholeTriples r (length (now (numbers .entry))) × (givenFrom (now (numbers .entry)) r ≡ leftBy typedAndFits (givenFrom (now (numbers .entry)) at)) ⌝ }
+    requires { ⌜ Whole 3 at (length (now numbers)) ⌝ }
+    ensures { λ r. ⌜ Whole 3 r (length (now (numbers .entry))) × (givenFrom (now (numbers .entry)) r ≡ leftBy typedAndFits (givenFrom (now (numbers .entry)) at)) ⌝ }
 {
     let mut place = at;
     while place < numbers.len() {
@@ -44,7 +44,7 @@ fn first_unfit(numbers: &[u64], at: usize) -> usize
 }
 
 fn all_typed(numbers: &[u64], at: usize) -> bool
-    requires { ⌜ WholeTriples at (length (now numbers)) ⌝ }
+    requires { ⌜ Whole 3 at (length (now numbers)) ⌝ }
     ensures { λ r. ⌜ r ≡ every entryTyped (givenFrom (now (numbers .entry)) at) ⌝ }
 {
     let mut place = at;

@@ -6,13 +6,13 @@ use borrow.Author.Needs.{needs}
 use Rattle.words.proofs.Comparisons.{failed, held}
 use Rattle.ultra_format.specs.Members.{every, entryTyped}
 use Rattle.ultra_rules.proofs.Every.{none-left, first-fails, first-passes}
-use Rattle.ultra_map.specs.OnePass.{WholeEntries, entriesTo}
+use Rattle.ultra_map.specs.OnePass.{Whole, entriesTo}
 use Rattle.ultra_map.proofs.Entries.{no-entry, first-entry}
 use Rattle.ultra_map.proofs.all_typed.Statement.{statement}
 use Rattle.ultra_map.proofs.all_typed.Tie as tie
 
 abbrev Inv-loop : tie.InvT-loop
-Inv-loop bytes at end place₀ place = WholeEntries place end × (every entryTyped (entriesTo bytes end at) ≡ every entryTyped (entriesTo bytes end place))
+Inv-loop bytes at end place₀ place = Whole 24 place end × (every entryTyped (entriesTo bytes end at) ≡ every entryTyped (entriesTo bytes end place))
 
 abbrev μ-loop : tie.MeasureT-loop
 μ-loop bytes at end place₀ place = end - place

@@ -4,14 +4,14 @@ use mathlib.Core.Path.{refl, sym, _∙_}
 use native.Mathlib.Omega.{arith}
 use borrow.Author.Needs.{needs}
 use Rattle.words.proofs.Comparisons.{failed, held}
-use Rattle.ultra_map.specs.OnePass.{WholeEntries, entriesTo, typedAndFits}
+use Rattle.ultra_map.specs.OnePass.{Whole, entriesTo, typedAndFits}
 use Rattle.ultra_map.proofs.OnePass.{Left, has-no-type, is-unfit, is-fit, none-fit}
 use Rattle.ultra_map.proofs.Entries.{no-entry, first-entry}
 use Rattle.ultra_map.proofs.first_unfit.Statement.{statement}
 use Rattle.ultra_map.proofs.first_unfit.Tie as tie
 
 abbrev Inv-loop : tie.InvT-loop
-Inv-loop bytes at end place₀ place = WholeEntries place end × Left typedAndFits (entriesTo bytes end) at place
+Inv-loop bytes at end place₀ place = Whole 24 place end × Left typedAndFits (entriesTo bytes end) at place
 
 abbrev μ-loop : tie.MeasureT-loop
 μ-loop bytes at end place₀ place = end - place

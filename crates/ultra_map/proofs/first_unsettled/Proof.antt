@@ -3,16 +3,15 @@ use Prim.Native.Nat.{_+_, _-_}
 use mathlib.Core.Path.{refl, sym, _∙_}
 use native.Mathlib.Omega.{arith}
 use borrow.Author.Needs.{needs}
-use denote.Ref.{now}
 use Rattle.words.proofs.Comparisons.{failed, held}
-use Rattle.ultra_map.specs.OnePass.{WholeEntries, entriesTo, settled}
+use Rattle.ultra_map.specs.OnePass.{Whole, entriesTo, settled}
 use Rattle.ultra_map.proofs.OnePass.{Left, untyped, passes-next, is-settled, last-left}
-use Rattle.ultra_map.proofs.Entries.{first-entry, one-entry}
+use Rattle.ultra_map.proofs.Entries.{no-entry, first-entry}
 use Rattle.ultra_map.proofs.first_unsettled.Statement.{statement}
 use Rattle.ultra_map.proofs.first_unsettled.Tie as tie
 
 abbrev Inv-loop : tie.InvT-loop
-Inv-loop bytes at last place₀ place = WholeEntries place last × Left settled (entriesTo bytes (last + 24)) at place
+Inv-loop bytes at last place₀ place = Whole 24 place last × Left settled (entriesTo bytes (last + 24)) at place
 
 abbrev μ-loop : tie.MeasureT-loop
 μ-loop bytes at last place₀ place = last - place
@@ -44,11 +43,7 @@ loop-again c =
     )
 
 returns-3 : tie.Need-returns-3 Inv-loop μ-loop
-returns-3 c =
-    let i = c .before .loop .inv in
-    let a = c .before .before .before .args in
-    let o = c .before .loop .place in
-    (i .0, sym (i .1 ∙ last-left (entriesTo (now (a .bytes)) (a .last + 24) o) (one-entry (now (a .bytes)) (a .last + 24) o (omega arith))))
+returns-3 c = let i = c .before .loop .inv in (i .0, sym (i .1 ∙ last-left (first-entry _ _ _ (omega arith)) (no-entry _ _ _ (omega arith))))
 
 pub first-unsettled-spec : {M : Type 1} → statement M
 first-unsettled-spec =

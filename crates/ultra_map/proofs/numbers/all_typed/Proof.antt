@@ -9,13 +9,13 @@ use denote.Ref.{now}
 use lib.ListN.{length}
 use Rattle.ultra_format.specs.Members.{nonzero, every, entryTyped}
 use Rattle.ultra_rules.proofs.Every.{none-left, first-fails, first-passes}
-use Rattle.ultra_map.specs.OnePass.{WholeTriples, givenFrom}
+use Rattle.ultra_map.specs.OnePass.{Whole, givenFrom}
 use Rattle.ultra_map.proofs.Triples.{no-entry, first-entry}
 use Rattle.ultra_map.proofs.numbers.all_typed.Statement.{statement}
 use Rattle.ultra_map.proofs.numbers.all_typed.Tie as tie
 
 abbrev Inv-loop : tie.InvT-loop
-Inv-loop numbers at place₀ place = WholeTriples place (length numbers) × (every entryTyped (givenFrom numbers at) ≡ every entryTyped (givenFrom numbers place))
+Inv-loop numbers at place₀ place = Whole 3 place (length numbers) × (every entryTyped (givenFrom numbers at) ≡ every entryTyped (givenFrom numbers place))
 
 abbrev μ-loop : tie.MeasureT-loop
 μ-loop numbers at place₀ place = length numbers - place

@@ -9,14 +9,14 @@ use denote.Ref.{now}
 use lib.ListN.{length}
 use Rattle.words.proofs.Comparisons.{failed, held}
 use Rattle.ultra_format.specs.Members.{nonzero}
-use Rattle.ultra_map.specs.OnePass.{WholeTriples, givenFrom, typedAndFits}
+use Rattle.ultra_map.specs.OnePass.{Whole, givenFrom, typedAndFits}
 use Rattle.ultra_map.proofs.OnePass.{Left, has-no-type, is-unfit, is-fit, none-fit}
 use Rattle.ultra_map.proofs.Triples.{no-entry, first-entry}
 use Rattle.ultra_map.proofs.numbers.first_unfit.Statement.{statement}
 use Rattle.ultra_map.proofs.numbers.first_unfit.Tie as tie
 
 abbrev Inv-loop : tie.InvT-loop
-Inv-loop numbers at place₀ place = WholeTriples place (length numbers) × Left typedAndFits (givenFrom numbers) at place
+Inv-loop numbers at place₀ place = Whole 3 place (length numbers) × Left typedAndFits (givenFrom numbers) at place
 
 abbrev μ-loop : tie.MeasureT-loop
 μ-loop numbers at place₀ place = length numbers - place

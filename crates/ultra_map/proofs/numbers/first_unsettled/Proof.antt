@@ -8,14 +8,14 @@ use borrow.Author.Tests.{ne-eqb}
 use denote.Ref.{now}
 use Rattle.words.proofs.Comparisons.{failed, held}
 use Rattle.ultra_format.specs.Members.{nonzero}
-use Rattle.ultra_map.specs.OnePass.{WholeTriples, givenFrom, settled}
+use Rattle.ultra_map.specs.OnePass.{Whole, givenFrom, settled}
 use Rattle.ultra_map.proofs.OnePass.{Left, untyped, passes-next, is-settled, last-left}
-use Rattle.ultra_map.proofs.Triples.{first-entry, one-entry}
+use Rattle.ultra_map.proofs.Triples.{no-entry, first-entry}
 use Rattle.ultra_map.proofs.numbers.first_unsettled.Statement.{statement}
 use Rattle.ultra_map.proofs.numbers.first_unsettled.Tie as tie
 
 abbrev Inv-loop : tie.InvT-loop
-Inv-loop numbers last place₀ place = WholeTriples place last × Left settled (givenFrom numbers) 0 place
+Inv-loop numbers last place₀ place = Whole 3 place last × Left settled (givenFrom numbers) 0 place
 
 abbrev μ-loop : tie.MeasureT-loop
 μ-loop numbers last place₀ place = last - place
@@ -56,7 +56,8 @@ returns-3 : tie.Need-returns-3 Inv-loop μ-loop
 returns-3 c =
     let d = c .before in
     let ns = now (d .before .before .args .numbers) in
-    (d .loop .inv .0, sym (d .loop .inv .1 ∙ last-left (givenFrom ns (d .loop .place)) (one-entry ns (d .loop .place) (omega arith))))
+    let o = d .loop .place in
+    (d .loop .inv .0, sym (d .loop .inv .1 ∙ last-left (first-entry ns o (omega arith)) (no-entry ns (o + 3) (omega arith))))
 
 pub first-unsettled-spec : {M : Type 1} → statement M
 first-unsettled-spec =
