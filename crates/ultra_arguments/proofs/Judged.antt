@@ -9,8 +9,8 @@ use lib.ListN.{length}
 use lib.Dec.{leb}
 use Rattle.refusals.specs.Refusals.{unless, FORM}
 use Rattle.ultra_format.specs.Members.{sizeSuits, values, every, ascii, asciiText, texts, ranges, ordered, memberCheck, bodyCheck}
-use Rattle.ultra_format.specs.Contexts.{Body}
-use Rattle.ultra_format.specs.Plain.{roundedUp, writtenSize}
+use Rattle.ultra_format.specs.Contexts.{Body, Body.commandLine}
+use Rattle.ultra_format.specs.Plain.{writtenSize}
 use Rattle.ultra_format.specs.Additions.{givenCheck}
 use Rattle.ultra_rules.proofs.Judged as stored
 
@@ -25,9 +25,10 @@ unfolding givenCheck bodyCheck
 judged f x {v} {t} {r} {o} form value text range order = form-first f v t r o ∙ ap (unless f FORM) (stored.judged (writtenSize x) x form value text range order)
 
 -- a command line is written in 16 bytes at least, and shorter than its field
-pub line-form : (t : List ℕ) → leb 16 (8 + roundedUp (length t + 1)) ≡ true
-line-form t = le-leb 16 (8 + roundedUp (length t + 1)) (omega arith)
+pub line-form : (t : List ℕ) → leb 16 (writtenSize (commandLine t)) ≡ true
+unfolding writtenSize
+line-form t = le-leb 16 (writtenSize (commandLine t)) (omega arith)
 
-pub line-text : (t : List ℕ) → every ascii t ≡ asciiText (8 + roundedUp (length t + 1) - 8) t
-unfolding asciiText
-line-text t = rw (lt-ltb (length t) (8 + roundedUp (length t + 1) - 8) (omega arith))
+pub line-text : (t : List ℕ) → every ascii t ≡ asciiText (writtenSize (commandLine t) - 8) t
+unfolding asciiText writtenSize
+line-text t = rw (lt-ltb (length t) (writtenSize (commandLine t) - 8) (omega arith))

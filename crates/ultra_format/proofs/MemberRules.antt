@@ -9,11 +9,12 @@ use native.Mathlib.Nat.{not-suc-le-zero, le-of-suc-le-suc}
 use lib.ListN.{length, getD}
 use lib.Dec.{leb, ltb, eqb}
 use borrow.Author.Tests.{leb-true, leb-false, le-leb, lt-leb, ltb-true, lt-ltb, eqb-true, eqb-false, eq-eqb, ne-eqb, not-true}
+use Rattle.words.specs.Rounding.{Multiple}
 use Rattle.ultra_format.specs.Contexts.{Member, Entry}
 use Rattle.ultra_format.specs.Contexts.{Member.present, Member.absent}
 use Rattle.address_ranges.specs.Ranges.{pageAligned, rangeFits}
 use Rattle.ultra_format.specs.Members.{every, presentIf, sizeSuits, nonzero, entryTyped, kernelValues, moduleValues, bppSuits, framebufferValues, values, ascii, asciiText, pathText, texts, entryFits, ranges}
-use Rattle.ultra_format.specs.MemberRules.{Multiple, PresentFrom, AsciiWithin, PathWithin, Ends, MemberRules}
+use Rattle.ultra_format.specs.MemberRules.{PresentFrom, AsciiWithin, PathWithin, Ends, MemberRules}
 use Rattle.refusals.proofs.Chains.{both-hold}
 
 -- ---- tests

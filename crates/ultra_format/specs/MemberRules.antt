@@ -8,15 +8,13 @@ use mathlib.Core.Bool.{true}
 use mathlib.Core.Logic.{_↔_, _⊎_}
 use mathlib.Core.List.{List}
 use lib.ListN.{length, getD}
+use Rattle.words.specs.Rounding.{Multiple}
 use Rattle.ultra_format.specs.Contexts.{Member, Platform, Kernel, Entry, Module, Framebuffer}
 use Rattle.ultra_format.specs.Contexts.{Member.present, Member.absent, Body.platform, Body.kernel, Body.memoryMap, Body.moduleInfo, Body.commandLine, Body.framebuffer, Body.other}
 use Rattle.ultra_format.specs.Members.{sizeSuits, values, texts, ranges}
 use Rattle.ultra_format.specs.Places.{single, repeatable}
 use Rattle.ultra_format.specs.Additions.{Addition.addMap, formed, mapFormed, guidsFormed}
 use Rattle.ultra_format.specs.MapOrder.{entryIn}
-
-abbrev pub Multiple : ℕ → ℕ → Type 0
-Multiple n x = (q : ℕ) × (x ≡ q * n)
 
 -- "present exactly if they end within the size"
 abbrev pub PresentFrom : ℕ → ℕ → Member → Type 0
