@@ -29,8 +29,8 @@ enum { RANGES_MAX = 128 };
 
 static struct range ranges[RANGES_MAX];
 
-/* An address that the kernel wonders about, such as that of a fault. */
-static const uint64_t fault_address = 0x300010;
+/* An address that the kernel wonders about, such as that of a fault. The answer is that of its page: a module's last page is held whole. */
+static const uint64_t fault_address = 0x301C00;
 
 /* The length of a text that ends at the first zero. Reading accepts no text without one. */
 static size_t text_length(const uint8_t *text)

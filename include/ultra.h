@@ -420,7 +420,10 @@ uint64_t ultra_copy_map(const uint8_t *buf, size_t buf_len, uint8_t *out, size_t
 uint64_t ultra_command_line(const uint8_t *buf, size_t buf_len);
 
 /*
- * Which module holds an address: the first in the context with its address <= the given one < its address + size.
+ * Which module holds an address: the first in the context with its address <= the given one < its address + its size, the size
+ * rounded up to a multiple of 4,096. So a module holds every page that it has a byte on, the last one whole, and one answer serves for
+ * all addresses of a page. A module of size 0 holds nothing. Where modules overlap, the first is answered, even where it has the address
+ * only in the tail of its last page. Sums are whole numbers; none wraps.
  * Success: the start of that module's attribute (its name is at ULTRA_MODULE_NAME_OFFSET from there), or 0 where none holds it.
  * Refusals: those of reading.
  */

@@ -666,6 +666,18 @@ sample(
 )
 
 sample(
+    "module_of_4097_bytes", "A module of 4,097 bytes at 8,192, which holds two pages (R-4); it is listed with its plain size.", "none",
+    both(module(address=2 * PAGE, size=PAGE + 1)),
+    "version=1.0",
+    "attributes=3",
+    *PLATFORM,
+    *KERNEL,
+    "module=1,8192,4097",
+    "modname=probe",
+    "used=528",
+)
+
+sample(
     "refused_16_order", "An entry of size 0 after one that ends at 2^64, a sum that wraps to 0.", "16 ORDER",
     both(memory_map((TOP - PAGE, PAGE, 1), (TOP - 1, 0, 1))),
     "refused=16,432",

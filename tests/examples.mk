@@ -23,7 +23,7 @@ test-examples: need-cc $(EXAMPLES_OUT)/loader $(EXAMPLES_OUT)/kernel
 	cmp $(EXAMPLES_OUT)/context.bin samples/listing.bin
 	$(EXAMPLES_OUT)/kernel $(EXAMPLES_OUT)/context.bin >$(EXAMPLES_OUT)/kernel.out
 	diff examples/kernel.expected $(EXAMPLES_OUT)/kernel.out
-	@# With a module, which holds the address that the kernel asks for.
+	@# With a module of 0x1800 bytes, which holds the address that the kernel asks for: in the tail of its last page.
 	$(EXAMPLES_OUT)/loader $(EXAMPLES_OUT)/module.bin 0x300000
 	$(EXAMPLES_OUT)/kernel $(EXAMPLES_OUT)/module.bin >$(EXAMPLES_OUT)/module.out
 	diff examples/kernel-module.expected $(EXAMPLES_OUT)/module.out

@@ -190,8 +190,8 @@ static void questions_of_cut(const uint8_t *buf, size_t length, enum side side)
         EXPECT(ultra_attribute(buf, length, index), length, starts[index]);
     EXPECT(ultra_attribute(buf, length, ATTRIBUTES), length, refusal(ULTRA_COUNT, USED));
     EXPECT(ultra_module_holding(buf, length, 0x10000), length, starts[MODULE]);
-    EXPECT(ultra_module_holding(buf, length, 0x217FF), length, starts[SECOND_MODULE]);
-    EXPECT(ultra_module_holding(buf, length, 0x21800), length, 0);
+    EXPECT(ultra_module_holding(buf, length, 0x21FFF), length, starts[SECOND_MODULE]);
+    EXPECT(ultra_module_holding(buf, length, 0x22000), length, 0);
     checks_call = "ultra_command_line";
     CHECK(ultra_command_line(buf, length) == line);
 

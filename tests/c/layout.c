@@ -501,7 +501,9 @@ static void ask_modules(const struct foreign *f, const uint8_t *buf)
     CHECK_ANSWER(ultra_module_holding(buf, f->used, 0xFFFF), ULTRA_OK, 0);
     CHECK_ANSWER(ultra_module_holding(buf, f->used, 0x10000), ULTRA_OK, start[0]);
     CHECK_ANSWER(ultra_module_holding(buf, f->used, 0x11000), ULTRA_OK, start[0]);
-    CHECK_ANSWER(ultra_module_holding(buf, f->used, 0x11001), ULTRA_OK, start[1]);
+    CHECK_ANSWER(ultra_module_holding(buf, f->used, 0x11001), ULTRA_OK, start[0]);
+    CHECK_ANSWER(ultra_module_holding(buf, f->used, 0x11FFF), ULTRA_OK, start[0]);
+    CHECK_ANSWER(ultra_module_holding(buf, f->used, 0x12000), ULTRA_OK, start[1]);
     CHECK_ANSWER(ultra_module_holding(buf, f->used, 0x12FFF), ULTRA_OK, start[1]);
     CHECK_ANSWER(ultra_module_holding(buf, f->used, 0x13000), ULTRA_OK, 0);
     CHECK_ANSWER(ultra_module_holding(buf, f->used, 0xFFFFFFFFFFFFEFFF), ULTRA_OK, 0);

@@ -245,13 +245,13 @@ static void check_line(struct lent lent, uint64_t reading)
     saw(COMMAND_LINE, rough(ultra_text_length(line)), rough(size_of(lent.buf + start)), 0);
 }
 
-/* Whether a module's attribute says that it holds an address. */
+/* Whether a module's attribute says that it holds an address: it starts there or before, and its last byte is on that page or past it. */
 static int holds(const uint8_t *module, uint64_t address)
 {
     uint64_t first = load64(module + offsetof(struct ultra_module_info_attribute, address));
     uint64_t size = load64(module + offsetof(struct ultra_module_info_attribute, size));
 
-    return first <= address && address - first < size;
+    return size != 0 && first <= address && address / PAGE <= (first + (size - 1)) / PAGE;
 }
 
 static uint32_t module_with(const uint8_t *buf, uint64_t address)
@@ -293,6 +293,8 @@ static void check_modules(struct lent lent, uint64_t reading)
         check_module(lent, reading, address - 1);
         check_module(lent, reading, address + size);
         check_module(lent, reading, address + size - 1);
+        check_module(lent, reading, (address + size - 1) | (PAGE - 1));
+        check_module(lent, reading, ((address + size - 1) | (PAGE - 1)) + 1);
         at += size_of(lent.buf + at);
         if (at >= ultra_value(reading) || type_of(lent.buf + at) != ULTRA_ATTRIBUTE_MODULE_INFO)
             at = 0;

@@ -130,6 +130,8 @@ REFUSED = {
 
 ACCEPTED = {
     "range_top": both(memory_map((TOP - 4096, 4096, 1)), module(address=TOP - 4096, size=4096), framebuffer(0, 1, 4096, 32, 4, TOP - 4096)),
+    "last_pages": both(module(address=4096, size=4097), module(address=8192, size=8192), module(address=TOP - 4096, size=1)),
+    "every_address": both(module(address=0, size=TOP - 1)),
     "no_entries": both(memory_map()),
     "empty_line": both(command_line(b"", 8)),
     "many_attributes": both(*[vendor(7, 8)] * 100, *[module()] * 5),

@@ -3,6 +3,7 @@
 use Prim.Native.Nat.{ℕ, _+_, _%_}
 use mathlib.Core.Bool.{Bool, _&&_}
 use lib.Dec.{leb, ltb, eqb}
+use Rattle.words.specs.Rounding.{roundedUp}
 
 -- "multiples of 4,096"
 abbrev pub pageAligned : ℕ → Bool
@@ -16,6 +17,6 @@ rangeFits address size = leb (address + size) 18446744073709551616
 abbrev pub endsBy : ℕ → ℕ → ℕ → Bool
 endsBy address size next = leb (address + size) next
 
--- "address ≤ a < address + size"
-unfoldable pub covers : ℕ → ℕ → ℕ → Bool
-covers address size a = leb address a && ltb a (address + size)
+-- "address ≤ a < address + size", where request R-4 "uses the size rounded up to 4,096"
+unfoldable pub pagesCover : ℕ → ℕ → ℕ → Bool
+pagesCover address size a = leb address a && ltb a (address + roundedUp 4096 size)

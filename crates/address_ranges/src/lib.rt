@@ -1,6 +1,6 @@
 // Addresses and ranges of them, judged in whole numbers without forming a sum that could wrap.
 ghost use mathlib.Core.Path.{_≡_};
-ghost use Rattle.address_ranges.specs.Ranges.{pageAligned, rangeFits, endsBy, covers};
+ghost use Rattle.address_ranges.specs.Ranges.{pageAligned, rangeFits, endsBy, pagesCover};
 
 pub fn page_aligned(number: u64) -> bool
     ensures { λ r. ⌜ r ≡ pageAligned number ⌝ }
@@ -28,12 +28,13 @@ pub fn ends_by(address: u64, size: u64, next: u64) -> bool
     size <= next - address
 }
 
-// Whether `size` bytes from `start` on cover `address`.
-pub fn covers(start: u64, size: u64, address: u64) -> bool
-    ensures { λ r. ⌜ r ≡ covers start size address ⌝ }
+// Whether the pages that `size` bytes from `start` on fill cover `address`: whether its page, counted from `start`, begins within the
+// size. The size rounded up to 4,096 may be 2^64, so it is not formed.
+pub fn pages_cover(start: u64, size: u64, address: u64) -> bool
+    ensures { λ r. ⌜ r ≡ pagesCover start size address ⌝ }
 {
     if address < start {
         return false;
     }
-    address - start < size
+    (address - start) / 4096 * 4096 < size
 }

@@ -34,14 +34,39 @@ fn ones() {
         module of 5000 at 2097152: 2097152 5000 2097152\n\
         module of 5000 at 2097152: 2097152 5000 2102151\n\
         module of 5000 at 2097152: 2097152 5000 2102152\n\
+        module of 5000 at 2097152: 2097152 5000 2105343\n\
+        module of 5000 at 2097152: 2097152 5000 2105344\n\
         module of 5000 at 2097152: 2097152 5000 4297064448\n\
         module of 0 at 4096: 4096 0 4095\n\
         module of 0 at 4096: 4096 0 4096\n\
-        module of 0 at 4096: 4096 0 4097\n\
+        module of 0 at 4096: 4096 0 8191\n\
+        module of 1 at 4096: 4096 1 4095\n\
+        module of 1 at 4096: 4096 1 4096\n\
+        module of 1 at 4096: 4096 1 8191\n\
+        module of 1 at 4096: 4096 1 8192\n\
+        module of 4095 at 4096: 4096 4095 8191\n\
+        module of 4095 at 4096: 4096 4095 8192\n\
+        module of 4096 at 4096: 4096 4096 8191\n\
+        module of 4096 at 4096: 4096 4096 8192\n\
+        module of 4097 at 8192: 8192 4097 8191\n\
+        module of 4097 at 8192: 8192 4097 8192\n\
+        module of 4097 at 8192: 8192 4097 16383\n\
+        module of 4097 at 8192: 8192 4097 16384\n\
         module that ends at 2^64: 18446744073709547520 4096 18446744073709547519\n\
         module that ends at 2^64: 18446744073709547520 4096 18446744073709547520\n\
         module that ends at 2^64: 18446744073709547520 4096 18446744073709551615\n\
         module that ends at 2^64: 18446744073709547520 4096 0\n\
+        module of 1 in the last page: 18446744073709547520 1 18446744073709547519\n\
+        module of 1 in the last page: 18446744073709547520 1 18446744073709551615\n\
+        module of 1 in the last page: 18446744073709547520 1 0\n\
+        module of 0 in the last page: 18446744073709547520 0 18446744073709551615\n\
+        module from 4096 into the last page: 4096 18446744073709543425 4095\n\
+        module from 4096 into the last page: 4096 18446744073709543425 18446744073709547520\n\
+        module from 4096 into the last page: 4096 18446744073709543425 18446744073709551615\n\
+        module of 2^64 - 4096 at 0: 0 18446744073709547520 18446744073709547519\n\
+        module of 2^64 - 4096 at 0: 0 18446744073709547520 18446744073709547520\n\
+        module of 2^64 - 4095 at 0: 0 18446744073709547521 0\n\
+        module of 2^64 - 4095 at 0: 0 18446744073709547521 18446744073709551615\n\
         module of 2^64 - 1 at 0: 0 18446744073709551615 0\n\
         module of 2^64 - 1 at 0: 0 18446744073709551615 18446744073709551614\n\
         module of 2^64 - 1 at 0: 0 18446744073709551615 18446744073709551615\n",
@@ -75,7 +100,14 @@ fn twos() {
         first starts lower: 4096 8192 8192 8192 8192\n\
         first starts lower: 4096 8192 8192 8192 12287\n\
         first starts lower: 4096 8192 8192 8192 12288\n\
-        first is empty: 4096 0 4096 1 4096\n",
+        first is empty: 4096 0 4096 1 4096\n\
+        first by its tail: 4096 4097 8192 8192 8193\n\
+        first by its tail: 4096 4097 8192 8192 12287\n\
+        first by its tail: 4096 4097 8192 8192 12288\n\
+        one page after the other: 4096 1 8192 1 8191\n\
+        one page after the other: 4096 1 8192 1 8192\n\
+        one page after the other: 4096 1 8192 1 12287\n\
+        one page after the other: 4096 1 8192 1 12288\n",
     );
 }
 

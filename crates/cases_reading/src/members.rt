@@ -109,6 +109,7 @@ fn modules() {
         b"\
         module at 2048: 512 2048\n\
         module at 4096: 512 4096\n\
+        module whose last page ends at 2^64: 520 18446744073709543425\n\
         module that ends at 2^64: 520 18446744073709547520\n\
         module that ends one past 2^64: 520 18446744073709547521\n",
     );

@@ -38,10 +38,11 @@ pub record Examples : Type 0 where
   pub copied : crossed (mapCopiedBytes listedBytes (replicate 31 165)) ≡ (1, rangeBytes ++ replicate 7 165)
   -- 23 bytes count as two: 18 × 2^32 + 480
   pub short : crossed (mapCopiedBytes listedBytes (replicate 23 165)) ≡ (77309411808, replicate 23 165)
-  -- a module of 4,097 bytes at 2^33 starts at 504, in the context with every type; before and after its bytes is none
+  -- a module of 4,097 bytes at 2^33 starts at 504, in the context with every type; before and after its two pages is none
   pub before : answerCrossed (moduleHolding everyTypeBytes 8589934591) ≡ 0
   pub held : answerCrossed (moduleHolding everyTypeBytes 8589934592) ≡ 504
-  pub after : answerCrossed (moduleHolding everyTypeBytes 8589938689) ≡ 0
+  pub lastByte : answerCrossed (moduleHolding everyTypeBytes 8589942783) ≡ 504
+  pub after : answerCrossed (moduleHolding everyTypeBytes 8589942784) ≡ 0
   -- a step at offset 0: 5 × 2^32; a refused buffer has no line
   pub low : stepCrossed (stepOf listedBytes (cursorAt 0 0)) ≡ 21474836480
   pub noLine : partCrossed (commandLinePart head) ≡ 0

@@ -9,6 +9,7 @@ use native.Mathlib.Omega.{arith}
 use lib.ListN.{length}
 use lib.Dec.{leb, ltb}
 use borrow.Author.Tests.{leb-true, le-leb, ltb-true, lt-ltb}
+use Rattle.words.specs.Rounding.{roundedUp}
 use Rattle.words.specs.Words.{littleEndian, numbersIn, numbersBytes}
 use Rattle.words.proofs.Numbers.{length-numbers}
 use Rattle.byte_layout.specs.Fields.{cells, filled}
@@ -25,28 +26,28 @@ use Rattle.ultra_questions.specs.Parts.{bodyPart, partBytes}
 use Rattle.ultra_locating.specs.Searching.{firstIn, foundStart}
 use Rattle.ultra_map_question.specs.MapQuestion.{numbers, mapIn, mapCopiedBytes}
 use Rattle.ultra_questions.specs.CommandLineQuestion.{commandLineIn, textIn}
-use Rattle.address_ranges.specs.Ranges.{covers}
+use Rattle.address_ranges.specs.Ranges.{pagesCover}
 use Rattle.ultra_questions.specs.ModuleQuestion.{holding, moduleIn}
-use Rattle.ultra_question_statements.specs.ByIndex.{HoldsAddress, HoldsAt, NoneHolds, FirstHolds, ModuleStart, QuestionsByIndex}
+use Rattle.ultra_question_statements.specs.ByIndex.{ModuleAt, NoModule, FirstModule, ModuleStart, HoldsAddress, QuestionsByIndex}
 use Rattle.ultra_question_statements.proofs.FirstByIndex.{Outcome, outcome, found-type, found-none}
 use Rattle.ultra_map_question.proofs.MapBytes.{over-numbers}
 use Rattle.ultra_question_statements.proofs.ByContext.{questions-by-context}
 
 -- ---- a module that holds the address, as a test and as a condition
-covered : (m : Module) (a : ℕ) → covers (m .address) (m .size) a ≡ true → HoldsAddress m a
-unfolding covers
+covered : (m : Module) (a : ℕ) → pagesCover (m .address) (m .size) a ≡ true → HoldsAddress a m
+unfolding pagesCover
 covered m a e =
-    let h = both-hold (leb (m .address) a) (ltb a (m .address + m .size)) e in
-    (leb-true (m .address) a (h .0), ltb-true a (m .address + m .size) (h .1))
+    let h = both-hold (leb (m .address) a) (ltb a (m .address + roundedUp 4096 (m .size))) e in
+    (leb-true (m .address) a (h .0), omega (arith, ltb-true a (m .address + roundedUp 4096 (m .size)) (h .1)))
 
-covers-held : (m : Module) (a : ℕ) → HoldsAddress m a → covers (m .address) (m .size) a ≡ true
-unfolding covers
-covers-held m a h = rw (le-leb (m .address) a (h .0), lt-ltb a (m .address + m .size) (h .1))
+held-covered : (m : Module) (a : ℕ) → HoldsAddress a m → pagesCover (m .address) (m .size) a ≡ true
+unfolding pagesCover
+held-covered m a h = rw (le-leb (m .address) a (h .0), lt-ltb a (m .address + roundedUp 4096 (m .size)) (h .1))
 
 clash : {A : Type 0} → _≡_ {A = Bool} false true → A
 clash e = absurd (let z : _≡_ {A = ℕ} 0 1 = cc in omega arith)
 
-held-module : (x : Body) (a : ℕ) → holding a x ≡ true → (m : Module) × (x ≡ moduleInfo m) × HoldsAddress m a
+held-module : (x : Body) (a : ℕ) → holding a x ≡ true → (m : Module) × (x ≡ moduleInfo m) × HoldsAddress a m
 held-module (platform p) a e = clash e
 held-module (kernel k) a e = clash e
 held-module (memoryMap es) a e = clash e
@@ -55,45 +56,43 @@ held-module (commandLine t) a e = clash e
 held-module (framebuffer f) a e = clash e
 held-module (other t) a e = clash e
 
-module _ (c : Context) (a : ℕ) where
-  held-at : (i : ℕ) → i < count c → holding a (bodyAt c i) ≡ true → HoldsAt c a i
-  held-at i h e = let k = held-module (bodyAt c i) a e in (h, k .0, k .1, k .2)
-
-  at-held : (i : ℕ) → HoldsAt c a i → holding a (bodyAt c i) ≡ true
-  at-held i h = ap (holding a) (h .2) ∙ covers-held (h .1) a (h .3)
-
-  not-held : (i : ℕ) → holding a (bodyAt c i) ≡ false → HoldsAt c a i → ⊥
-  not-held i e h = clash (sym e ∙ at-held i h)
-
-  -- what is answered, and that nothing else is said
-  said : Outcome (holding a) 8 (c .attributes) (firstIn (holding a) c) → ModuleStart c a (foundStart (firstIn (holding a) c))
-  said (inl r) = inl (ap foundStart (r .0), λ i h. not-held i (r .1 i (h .0)) h)
-  said (inr f) = inr (f .index, ap foundStart (f .is), (held-at (f .index) (f .below) (f .meets), λ j k. not-held j (f .before j k)))
-
-  first-is : (i j : ℕ) → FirstHolds c a i → FirstHolds c a j → i ≡ j
+-- ---- whatever is asked of a module, one start is answered
+module _ (Asked : Module → Type 0) (c : Context) where
+  first-is : (i j : ℕ) → FirstModule Asked c i → FirstModule Asked c j → i ≡ j
   first-is i j g h =
-      let p : i < j → ⊥ = λ k. h .1 i k (g .0) in
-      let q : j < i → ⊥ = λ k. g .1 j k (h .0) in
+      let p : i < j → ⊥ = λ k. h .1 i (g .0 .0) k (g .0 .1) (g .0 .2) in
+      let q : j < i → ⊥ = λ k. g .1 j (h .0 .0) k (h .0 .1) (h .0 .2) in
       omega arith
 
-  said-once : (o u : ℕ) → ModuleStart c a o → ModuleStart c a u → o ≡ u
+  said-once : (o u : ℕ) → ModuleStart Asked c o → ModuleStart Asked c u → o ≡ u
   said-once o u (inl x) (inl y) = x .0 ∙ sym (y .0)
-  said-once o u (inl x) (inr y) = absurd (x .1 (y .0) (y .2 .0))
-  said-once o u (inr x) (inl y) = absurd (y .1 (x .0) (x .2 .0))
+  said-once o u (inl x) (inr y) = absurd (let f = y .2 .0 in x .1 (y .0) (f .0) (f .1) (f .2))
+  said-once o u (inr x) (inl y) = absurd (let f = x .2 .0 in y .1 (x .0) (f .0) (f .1) (f .2))
   said-once o u (inr x) (inr y) = x .1 ∙ ap (startIn (c .attributes)) (first-is (x .0) (y .0) (x .2) (y .2)) ∙ sym (y .1)
 
-  start-said : ModuleStart c a (foundStart (firstIn (holding a) c))
+  pub none-said : ModuleStart Asked c 0 → NoModule Asked c
+  none-said (inl x) = x .1
+  none-said (inr x) = absurd (omega (arith, x .1))
+
+module _ (c : Context) (a : ℕ) where
+  not-held : (i : ℕ) (m : Module) → holding a (bodyAt c i) ≡ false → ModuleAt c i m → HoldsAddress a m → ⊥
+  not-held i m e k h = clash (sym e ∙ ap (holding a) (k .1) ∙ held-covered m a h)
+
+  -- what is answered, and that nothing else is said
+  said : Outcome (holding a) 8 (c .attributes) (firstIn (holding a) c) → ModuleStart (HoldsAddress a) c (foundStart (firstIn (holding a) c))
+  said (inl r) = inl (ap foundStart (r .0), λ i m k. not-held i m (r .1 i (k .0)) k)
+  said (inr f) =
+      let k = held-module (bodyAt c (f .index)) a (f .meets) in
+      inr (f .index, ap foundStart (f .is), ((k .0, (f .below, k .1), k .2), λ j n l. not-held j n (f .before j l)))
+
+  start-said : ModuleStart (HoldsAddress a) c (foundStart (firstIn (holding a) c))
   start-said = said (outcome (holding a) 8 (c .attributes))
 
-  modules-said : (o : ℕ) → (moduleIn c a ≡ Done o) ↔ ModuleStart c a o
-  modules-said o = (λ e. let q : foundStart (firstIn (holding a) c) ≡ o = cc in rw q at start-said, λ s. ap Done (said-once _ o start-said s))
+  modules-said : (o : ℕ) → (moduleIn c a ≡ Done o) ↔ ModuleStart (HoldsAddress a) c o
+  modules-said o = (λ e. let q : foundStart (firstIn (holding a) c) ≡ o = cc in rw q at start-said, λ s. ap Done (said-once (HoldsAddress a) c _ o start-said s))
 
-  none-said : (moduleIn c a ≡ Done 0) ↔ NoneHolds c a
-  none-said = (λ e. only (modules-said 0 .0 e), λ n. modules-said 0 .1 (inl (refl, n)))
-    where
-      only : ModuleStart c a 0 → NoneHolds c a
-      only (inl x) = x .1
-      only (inr x) = absurd (omega (arith, x .1))
+  no-module : (moduleIn c a ≡ Done 0) ↔ NoModule (HoldsAddress a) c
+  no-module = (λ e. none-said (HoldsAddress a) c (modules-said 0 .0 e), λ n. modules-said 0 .1 (inl (refl, n)))
 
 -- ---- the map's numbers as bytes
 bytes-numbers : (es : List Entry) → numbersBytes (numbers es) ≡ partBytes (memoryMap es)
@@ -125,7 +124,7 @@ questions-by-index b c h =
     let m = h .0 in
     record {
       modules = λ a o. rw (q .modules a) (modules-said c a o);
-      noModule = λ a. rw (q .modules a) (none-said c a);
+      noModule = λ a. rw (q .modules a) (no-module c a);
       map = λ i es out l e k. q .maps out ∙ map-is (roomOf b) c m i es out l e k;
       mapBytes =
           λ i es out y l e k.

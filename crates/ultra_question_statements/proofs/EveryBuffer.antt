@@ -13,7 +13,7 @@ use Rattle.byte_layout.specs.Stored.{over}
 use Rattle.words.specs.Words.{numbersIn}
 use Rattle.refusals.specs.Refusals.{COUNT, ROOM, ABSENT}
 use Rattle.refusals.specs.Answers.{refusal, refused}
-use Rattle.ultra_format.specs.Contexts.{Entry, Body, typeOf, Context, count, attributeAt, bodyAt, typeAt, startIn, used}
+use Rattle.ultra_format.specs.Contexts.{Entry, Module, Body, typeOf, Context, count, attributeAt, bodyAt, typeAt, startIn, used}
 use Rattle.ultra_format.specs.Contexts.{Body.platform, Body.kernel, Body.memoryMap, Body.moduleInfo, Body.commandLine, Body.framebuffer, Body.other}
 use Rattle.lent_buffers.specs.Room.{roomOf}
 use Rattle.ultra_format.specs.Rules.{TypeSuits, Meets}
@@ -29,21 +29,23 @@ use Rattle.lent_buffers.specs.declared.Part.{Part}
 use Rattle.ultra_questions.specs.declared.attributes.AttributeAnswer.{AttributeAnswer}
 use Rattle.lent_buffers.specs.LentParts.{part, PartOf}
 use Rattle.ultra_questions.specs.Parts.{partBytes}
-use Rattle.ultra_locating.specs.Searching.{firstIn, ofType}
+use Rattle.ultra_locating.specs.Searching.{firstIn, foundStart, ofType}
 use Rattle.ultra_question_statements.specs.EveryBuffer.{RefusedBy, MapHeld, NoLine, LineHeld, AnswersOf, EveryBuffer}
 use Rattle.ultra_question_statements.specs.QuestionRefusals.{MapRefused, QuestionsRefuseExactly, RefusalsPassOn}
 use Rattle.ultra_question_statements.specs.ByContext.{QuestionsByContext}
-use Rattle.ultra_question_statements.specs.ByIndex.{QuestionsByIndex}
+use Rattle.ultra_question_statements.specs.ByIndex.{ModuleAt, NoModule, ModuleStart, QuestionsByIndex}
+use Rattle.ultra_question_statements.specs.LastPage.{SamePage, OnPage, LastPage}
 use Rattle.ultra_question_statements.specs.MapAsBytes.{CopiesBytes}
 use Rattle.ultra_questions.specs.AttributeQuestion.{answered, withMembers, attributeStart, attributeAnswer, PartHandedBack}
 use Rattle.ultra_map_question.specs.MapQuestion.{numbers, mapCopied, mapCopiedBytes}
 use Rattle.ultra_questions.specs.CommandLineQuestion.{commandLineIn, LineHandedBack}
-use Rattle.ultra_questions.specs.ModuleQuestion.{moduleHolding}
+use Rattle.ultra_questions.specs.ModuleQuestion.{holding, moduleHolding}
 use Rattle.ultra_question_statements.proofs.PartCells.{slice-empty}
 use Rattle.ultra_question_statements.proofs.FirstByIndex.{Outcome, outcome}
 use Rattle.ultra_question_statements.proofs.QuestionRefusals.{done-refused, map-body, questions-refuse, refusals-pass-on}
 use Rattle.ultra_question_statements.proofs.ByContext.{questions-by-context}
-use Rattle.ultra_question_statements.proofs.ByIndex.{questions-by-index}
+use Rattle.ultra_question_statements.proofs.ByIndex.{none-said, questions-by-index}
+use Rattle.ultra_question_statements.proofs.LastPage.{last-page}
 use Rattle.ultra_question_statements.proofs.MapAsBytes.{map-as-bytes}
 
 same-refusal : {r s : Refusal} → Refused r ≡ Refused s → r ≡ s
@@ -127,8 +129,16 @@ line-body (other t) u e = absurd (omega arith)
 count-said : (x : Answer × List ℕ) (k n : ℕ) (l : List ℕ) → x ≡ (Done k, l) → x .0 ≡ Done n → n ≡ k
 count-said x k n l e q = let w : Done n ≡ Done k = sym q ∙ ap (λ (z : Answer × List ℕ). z .0) e in cc
 
+-- ---- what is asked of a module may be said otherwise
+module _ (c : Context) {P Q : Module → Type 0} (to : (i : ℕ) (m : Module) → ModuleAt c i m → P m → Q m) (back : (i : ℕ) (m : Module) → ModuleAt c i m → Q m → P m) where
+  asked-alike : (o : ℕ) → ModuleStart P c o → ModuleStart Q c o
+  asked-alike o (inl n) = inl (n .0, λ i m k q. n .1 i m k (back i m k q))
+  asked-alike o (inr (i, e, f)) =
+      let g = f .0 in
+      inr (i, e, ((g .0, g .1, to i (g .0) (g .1) (g .2)), λ j n l k q. f .1 j n l k (back j n k q)))
+
 -- ---- from the statements alone
-module _ (refuse : QuestionsRefuseExactly) (pass : RefusalsPassOn) (byContext : QuestionsByContext) (byIndex : QuestionsByIndex) (copies : CopiesBytes) (b : List ℕ) (y : (i : ℕ) → getD b i 0 < 256) where
+module _ (refuse : QuestionsRefuseExactly) (pass : RefusalsPassOn) (byContext : QuestionsByContext) (byIndex : QuestionsByIndex) (lastPage : LastPage) (copies : CopiesBytes) (b : List ℕ) (y : (i : ℕ) → getD b i 0 < 256) where
   bytes-pass : (out : List ℕ) (s : Refusal) → usedLength 2 b ≡ Refused s → mapCopiedBytes b out .0 ≡ Refused s
   unfolding mapCopiedBytes
   bytes-pass out s e = ap (λ (z : Answer × List ℕ). z .0) (pass b s e .maps (numbersIn out))
@@ -181,6 +191,30 @@ module _ (refuse : QuestionsRefuseExactly) (pass : RefusalsPassOn) (byContext : 
   module-refused a r (inl (s, e)) q = read-refused b y s e ∙ ap reading.Refused (same-refusal (sym (pass b s e .modules a) ∙ q))
   module-refused a r (inr (c, h)) q = absurd (refuse b c h .modules a r q)
 
+  module-held : (a o : ℕ) → moduleHolding b a ≡ Done o → (c : Context) × HoldsContext 2 b c
+  module-held a o e = held b y (moduleHolding b a) o (λ s q. pass b s q .modules a) e (either b y)
+
+  -- by pages
+  module _ (c : Context) (h : HoldsContext 2 b c) (a o : ℕ) where
+    on-page : (moduleHolding b a ≡ Done o) ↔ ModuleStart (OnPage a) c o
+    on-page =
+        let p = lastPage .contexts b c h .pages in
+        let q = byIndex b c h .modules a o in
+        (λ e. asked-alike c (λ i m k. p i m a k .0) (λ i m k. p i m a k .1) o (q .0 e), λ s. q .1 (asked-alike c (λ i m k. p i m a k .1) (λ i m k. p i m a k .0) o s))
+
+  page-start : (a o : ℕ) → (moduleHolding b a ≡ Done o) ↔ ((c : Context) × HoldsContext 2 b c × ModuleStart (OnPage a) c o)
+  page-start a o = (λ e. let k = module-held a o e in (k .0, k .1, on-page (k .0) (k .1) a o .0 e), λ k. on-page (k .0) (k .1) a o .1 (k .2))
+
+  page-free : (a : ℕ) → (moduleHolding b a ≡ Done 0) ↔ ((c : Context) × HoldsContext 2 b c × NoModule (OnPage a) c)
+  page-free a = (λ e. let k = page-start a 0 .0 e in (k .0, k .1, none-said (OnPage a) (k .0) (k .2)), λ k. page-start a 0 .1 (k .0, k .1, inl (refl, k .2)))
+
+  one-page : (a x : ℕ) → SamePage a x → Either b y → moduleHolding b a ≡ moduleHolding b x
+  one-page a x s (inl (r, e)) = pass b r e .modules a ∙ sym (pass b r e .modules x)
+  one-page a x s (inr (c, h)) =
+      let o = foundStart (firstIn (holding a) c) in
+      let e = byContext b c h .modules a in
+      e ∙ sym (on-page c h x o .1 (asked-alike c (λ i m k p. (p .0, p .1, p .2, p .3 ∙ s)) (λ i m k p. (p .0, p .1, p .2, p .3 ∙ sym s)) o (on-page c h a o .0 e)))
+
   module _ (lent s : RefT (List ℕ)) (e : s .now ≡ b) (p : LineHandedBack lent s) where
     line-of : (c : Context) → HoldsContext 2 b c → Outcome (ofType 5) 8 (c .attributes) (firstIn (ofType 5) c) → ((lent .now ≡ []) × NoLine b) ⊎ LineHeld b lent s
     line-of c h (inl r) =
@@ -214,11 +248,14 @@ module _ (refuse : QuestionsRefuseExactly) (pass : RefusalsPassOn) (byContext : 
         bytesCopied = λ out n z e. bytes-copied out n z e (held b y (mapCopiedBytes b out .0) n (bytes-pass out) e (either b y));
         moduleStart =
             λ a o. (
-              λ e. let k = held b y (moduleHolding b a) o (λ s q. pass b s q .modules a) e (either b y) in (k .0, k .1, byIndex b (k .0) (k .1) .modules a o .0 e),
+              λ e. let k = module-held a o e in (k .0, k .1, byIndex b (k .0) (k .1) .modules a o .0 e),
               λ k. byIndex b (k .0) (k .1) .modules a o .1 (k .2),
             );
+        modulePage = page-start;
+        pageFree = page-free;
+        onePage = λ a x s. one-page a x s (either b y);
         line = λ lent s e p. line-is lent s e p (either b y);
       }
 
 pub every-buffer : EveryBuffer
-every-buffer = answers-of questions-refuse refusals-pass-on questions-by-context questions-by-index map-as-bytes
+every-buffer = answers-of questions-refuse refusals-pass-on questions-by-context questions-by-index last-page map-as-bytes

@@ -3,6 +3,7 @@ pub mod ByContext
 pub mod FirstByIndex
 pub mod QuestionRefusals
 pub mod ByIndex
+pub mod LastPage
 pub mod MapAsBytes
 pub mod EveryBuffer
 pub mod Witness

@@ -7,6 +7,7 @@ use mathlib.Core.Path.{_≡_}
 use mathlib.Core.Logic.{_↔_, _⊎_}
 use mathlib.Core.List.{List, []}
 use lib.ListN.{length}
+use Rattle.words.specs.Rounding.{roundedUp}
 use Rattle.byte_layout.specs.Stored.{Bytes, over}
 use Rattle.ultra_format.specs.Contexts.{Entry, Module, Body.memoryMap, Body.moduleInfo, Body.commandLine, Context, count, bodyAt, typeAt, startIn}
 use Rattle.refusals.specs.declared.Answer.the-variants.{Done}
@@ -18,29 +19,31 @@ use Rattle.ultra_questions.specs.CommandLineQuestion.{textIn, commandLinePart}
 use Rattle.ultra_questions.specs.ModuleQuestion.{moduleHolding}
 
 -- ---- "Which module holds an address"
--- "address ≤ a < address + size": the sum is a whole number
-abbrev pub HoldsAddress : Module → ℕ → Type 0
-HoldsAddress m a = (m .address ≤ a) × (a < m .address + m .size)
+-- the context has the module at index i
+abbrev pub ModuleAt : Context → ℕ → Module → Type 0
+ModuleAt c i m = (i < count c) × (bodyAt c i ≡ moduleInfo m)
 
--- the attribute at index i is a module that holds the address
-abbrev pub HoldsAt : Context → ℕ → ℕ → Type 0
-HoldsAt c a i = (i < count c) × (m : Module) × (bodyAt c i ≡ moduleInfo m) × HoldsAddress m a
+-- which start is answered, by what is asked of a module
+module _ (Asked : Module → Type 0) (c : Context) where
+  abbrev pub NoModule : Type 0
+  NoModule = (i : ℕ) (m : Module) → ModuleAt c i m → Asked m → ⊥
 
-abbrev pub NoneHolds : Context → ℕ → Type 0
-NoneHolds c a = (i : ℕ) → HoldsAt c a i → ⊥
+  -- "the first module"
+  abbrev pub FirstModule : ℕ → Type 0
+  FirstModule i = ((m : Module) × ModuleAt c i m × Asked m) × ((j : ℕ) (n : Module) → j < i → ModuleAt c j n → Asked n → ⊥)
 
--- "the first module"
-abbrev pub FirstHolds : Context → ℕ → ℕ → Type 0
-FirstHolds c a i = HoldsAt c a i × ((j : ℕ) → j < i → HoldsAt c a j → ⊥)
+  -- "the attribute start of the first module .., or 0"
+  abbrev pub ModuleStart : ℕ → Type 0
+  ModuleStart o = ((o ≡ 0) × NoModule) ⊎ ((i : ℕ) × (o ≡ startIn (c .attributes) i) × FirstModule i)
 
--- "the attribute start of the first module .., or 0"
-abbrev pub ModuleStart : Context → ℕ → ℕ → Type 0
-ModuleStart c a o = ((o ≡ 0) × NoneHolds c a) ⊎ ((i : ℕ) × (o ≡ startIn (c .attributes) i) × FirstHolds c a i)
+-- "address ≤ a < address + size", where request R-4 "uses the size rounded up to 4,096": the sum is a whole number
+abbrev pub HoldsAddress : ℕ → Module → Type 0
+HoldsAddress a m = (m .address ≤ a) × (a < m .address + roundedUp 4096 (m .size))
 
 pub record ByIndex (b : List ℕ) (c : Context) : Type 0 where
   -- 0 tells that there is none
-  pub modules : (a o : ℕ) → (moduleHolding b a ≡ Done o) ↔ ModuleStart c a o
-  pub noModule : (a : ℕ) → (moduleHolding b a ≡ Done 0) ↔ NoneHolds c a
+  pub modules : (a o : ℕ) → (moduleHolding b a ≡ Done o) ↔ ModuleStart (HoldsAddress a) c o
+  pub noModule : (a : ℕ) → (moduleHolding b a ≡ Done 0) ↔ NoModule (HoldsAddress a) c
   -- "The map copied out as 64-bit numbers"; "elements past the last triple stay. Success answers the number of entries."
   pub map : (i : ℕ) (es : List Entry) (out : List ℕ) → i < count c → bodyAt c i ≡ memoryMap es → 3 * length es ≤ length out
       → mapCopied b out ≡ (Done (length es), over (numbers es) out)

@@ -1,6 +1,6 @@
 -- Statement: what the questions answer of every buffer of bytes, whatever it holds: exactly when each refuses, and of what list it answers
 -- where it does not. Reading is the call `read`. Proved in proofs/EveryBuffer.antt, `every-buffer`, from the statements of
--- QuestionRefusals, ByIndex, ByContext and MapAsBytes alone: one that asked for more would not give it.
+-- QuestionRefusals, ByIndex, ByContext and MapAsBytes, and from `pages` of LastPage, alone: one that asked for more would not give it.
 -- A reader has to believe this file.
 use Prim.Native.Nat.{ℕ, _+_, _/_, _<_}
 use mathlib.Core.Path.{_≡_}
@@ -22,7 +22,8 @@ use Rattle.ultra_map_question.specs.MapQuestion.{numbers, mapCopied, mapCopiedB
 use Rattle.ultra_questions.specs.CommandLineQuestion.{LineHandedBack}
 use Rattle.ultra_questions.specs.ModuleQuestion.{moduleHolding}
 use Rattle.ultra_question_statements.specs.QuestionRefusals.{IndexRefused, MapRefused}
-use Rattle.ultra_question_statements.specs.ByIndex.{ModuleStart}
+use Rattle.ultra_question_statements.specs.ByIndex.{NoModule, ModuleStart, HoldsAddress}
+use Rattle.ultra_question_statements.specs.LastPage.{SamePage, OnPage}
 
 -- reading refuses so, or the list that is held breaks the question's own condition
 abbrev pub RefusedBy : List ℕ → Refusal → (Context → Type 0) → Type 0
@@ -62,7 +63,13 @@ pub record AnswersOf (b : List ℕ) : Type 0 where
       → (es : List Entry) × MapHeld b es × (n ≡ length es) × (mapCopied b out .1 ≡ over (numbers es) out)
   pub bytesCopied : (out : List ℕ) (n : ℕ) → ((i : ℕ) → getD out i 0 < 256) → mapCopiedBytes b out .0 ≡ Done n
       → (es : List Entry) × MapHeld b es × (n ≡ length es) × (mapCopiedBytes b out .1 ≡ over (partBytes (memoryMap es)) out)
-  pub moduleStart : (a o : ℕ) → (moduleHolding b a ≡ Done o) ↔ ((c : Context) × HoldsContext 2 b c × ModuleStart c a o)
+  pub moduleStart : (a o : ℕ) → (moduleHolding b a ≡ Done o) ↔ ((c : Context) × HoldsContext 2 b c × ModuleStart (HoldsAddress a) c o)
+  -- the same by pages: the first module that has a byte on the address's page
+  pub modulePage : (a o : ℕ) → (moduleHolding b a ≡ Done o) ↔ ((c : Context) × HoldsContext 2 b c × ModuleStart (OnPage a) c o)
+  -- "the page was given to the allocator": 0 now tells that no module has a byte on the page
+  pub pageFree : (a : ℕ) → (moduleHolding b a ≡ Done 0) ↔ ((c : Context) × HoldsContext 2 b c × NoModule (OnPage a) c)
+  -- every address of a page gets the same answer, of a refused buffer too
+  pub onePage : (a x : ℕ) → SamePage a x → moduleHolding b a ≡ moduleHolding b x
   -- "The command line is handed back as that part of the buffer, up to its zero; an empty part if there is none or the buffer is refused."
   pub line : (lent s : RefT (List ℕ)) → s .now ≡ b → LineHandedBack lent s → ((lent .now ≡ []) × NoLine b) ⊎ LineHeld b lent s
 

@@ -1,5 +1,6 @@
 pub mod ByContext
 pub mod ByIndex
+pub mod LastPage
 pub mod QuestionRefusals
 pub mod MapAsBytes
 pub mod EveryBuffer

@@ -5,8 +5,10 @@ use Prim.Native.Nat.{ℕ, _<_}
 use mathlib.Core.Path.{_≡_}
 use mathlib.Core.List.{List, _∷_}
 use lib.ListN.{length, getD}
+use Rattle.words.specs.Rounding.{roundedUp}
 use Rattle.refusals.specs.Answers.{refused}
 use Rattle.ultra_format.specs.Examples.{everyType, everyTypeBytes}
+use Rattle.ultra_format.specs.MemberRules.{Ends}
 use Rattle.refusals.specs.declared.Answer.the-variants.{Done}
 use Rattle.ultra_acceptance.specs.Acceptance.{HoldsContext}
 use Rattle.lent_buffers.specs.LentParts.{part}
@@ -20,11 +22,17 @@ pub record Witnessed : Type 0 where
   -- seven attributes in 688 bytes
   pub last : attributeStart everyTypeBytes 6 ≡ Done 672
   pub past : attributeStart everyTypeBytes 7 ≡ refused 3 688
-  -- 4,097 bytes of a module at 2^33, the attribute of which starts at 504
+  -- 4,097 bytes of a module at 2^33, the attribute of which starts at 504: its second page is held to its last byte
   pub before : moduleHolding everyTypeBytes 8589934591 ≡ Done 0
   pub firstByte : moduleHolding everyTypeBytes 8589934592 ≡ Done 504
-  pub lastByte : moduleHolding everyTypeBytes 8589938688 ≡ Done 504
-  pub after : moduleHolding everyTypeBytes 8589938689 ≡ Done 0
+  pub lastByte : moduleHolding everyTypeBytes 8589942783 ≡ Done 504
+  pub after : moduleHolding everyTypeBytes 8589942784 ≡ Done 0
+  pub roundedEnd : Ends 8589934592 (roundedUp 4096 4097)
+  -- the last page of the address space, at a multiple of 4,096 and of no higher power of 2: rounded up, one byte ends within 2^64, and one
+  -- byte more than the page does not
+  pub lastPage : Ends 18446744073709547520 (roundedUp 4096 1) × (Ends 18446744073709547520 (roundedUp 4096 4097) → ⊥)
+  -- half of it, which is not page aligned: the plain end does not pass 2^64, and the rounded one does
+  pub halfPage : Ends 18446744073709549568 2048 × (Ends 18446744073709549568 (roundedUp 4096 2048) → ⊥)
   -- two entries, six numbers
   pub map : (a b c d e f : ℕ) (rest : List ℕ)
       → mapCopied everyTypeBytes (a ∷ b ∷ c ∷ d ∷ e ∷ f ∷ rest) ≡ (Done 2, 0 ∷ 18446744073709547520 ∷ 1 ∷ 18446744073709547520 ∷ 4096 ∷ 4294967296 ∷ rest)

@@ -16,7 +16,7 @@ use Rattle.ultra_format.proofs.Bodies.{by-type}
 use Rattle.ultra_format.proofs.Sizes.{map-size}
 use Rattle.lent_buffers.specs.LentParts.{part, noPart}
 use Rattle.ultra_questions.specs.Parts.{bodyPart}
-use Rattle.address_ranges.specs.Ranges.{covers}
+use Rattle.address_ranges.specs.Ranges.{pagesCover}
 use Rattle.ultra_questions.specs.ModuleQuestion.{holding}
 
 module _ (b : List ℕ) (o s t : ℕ) where
@@ -49,6 +49,6 @@ module _ (b : List ℕ) (o s t : ℕ) where
     no-module n4 =
         by-type (λ (x : Body). false ≡ holding a x) b o s t (λ e. refl) (λ e. refl) (λ e. refl) (λ e. absurd (n4 e)) (λ e. refl) (λ e. refl) (λ n. refl)
 
-    pub is-module : t ≡ 4 → covers (u64At b (o + 80)) (u64At b (o + 88)) a ≡ holding a (decoded b o s t)
+    pub is-module : t ≡ 4 → pagesCover (u64At b (o + 80)) (u64At b (o + 88)) a ≡ holding a (decoded b o s t)
     unfolding decoded
     is-module e = sym (ap (λ (k : ℕ). holding a (decoded b o s k)) e)

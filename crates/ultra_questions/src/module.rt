@@ -24,7 +24,7 @@ fn holds(buf: &[u8], at: usize, size: u32, address: u64) -> bool
     if words::load_u32(buf, at) != types::MODULE {
         return false;
     }
-    address_ranges::covers(
+    address_ranges::pages_cover(
         words::load_u64(buf, at + module::ADDRESS),
         words::load_u64(buf, at + module::SIZE),
         address,

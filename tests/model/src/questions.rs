@@ -6,7 +6,7 @@ use std::ops::Range;
 use crate::format::Number::{Absent, Count, Room};
 use crate::format::*;
 use crate::reading::{attributes, read, Attribute};
-use crate::records::{end, Module};
+use crate::records::Module;
 
 /// The attribute at an index; "3 with the used length" at or past the count.
 pub fn attribute(buf: &[u8], index: u64) -> Result<Attribute<'_>, Refusal> {
@@ -36,13 +36,17 @@ pub fn command_line(buf: &[u8]) -> Option<Range<usize>> {
     read(buf, COUNT_LEAST).ok()?.command_line
 }
 
-/// "the attribute start of the first module with address ≤ a < address + size, or 0"
+/// "the attribute start of the first module with address ≤ a < address + size, or 0"; by R-4
+/// "the question about an address uses the size rounded up to 4,096; a size of 0 still holds
+/// nothing". Sizes are rounded in whole numbers: 2^64 − 1 becomes 2^64.
 pub fn module_holding(buf: &[u8], address: u64) -> Answer {
     let outline = read(buf, COUNT_LEAST)?;
     let holds = |attribute: &Attribute| {
         attribute.kind == MODULE
             && Module::parse(attribute.bytes).is_ok_and(|module| {
-                module.address <= address && u128::from(address) < end(module.address, module.size)
+                let size = u128::from(module.size).next_multiple_of(PAGE.into());
+                let end = u128::from(module.address) + size;
+                module.address <= address && u128::from(address) < end
             })
     };
     Ok(attributes(buf, &outline)

@@ -1,4 +1,4 @@
-//! The worked cases of the paper, on the model alone. Contexts are written byte by
+//! The worked cases of the paper and of R-4, on the model alone. Contexts are written byte by
 //! byte (see `common`), never with the model's own adds.
 
 mod common;
@@ -6,8 +6,9 @@ mod common;
 use common::*;
 use ultra_model::calls;
 use ultra_model::format::Number::{self, *};
+use ultra_model::listing::listing;
 use ultra_model::questions;
-use ultra_model::records::Platform;
+use ultra_model::records::{Module, Platform};
 use ultra_model::stepping::Cursor;
 
 /// The single number of a refusal.
@@ -16,6 +17,9 @@ fn refused(number: Number, offset: u64) -> u64 {
 }
 
 const THIRD: u64 = 8 + 88 + 336;
+
+/// The last page of the address space.
+const TOP: u64 = 0_u64.wrapping_sub(4_096);
 
 fn module(address: u64, size: u64) -> Vec<u8> {
     attribute(
@@ -236,26 +240,132 @@ fn ranges_that_meet() {
 
 #[test]
 fn the_top_of_the_address_space() {
-    let top = 0_u64.wrapping_sub(4096);
-    assert_eq!(calls::read(&with(&[map(&[top, 4096, 1])])), THIRD + 32);
+    assert_eq!(calls::read(&with(&[map(&[TOP, 4096, 1])])), THIRD + 32);
     assert_eq!(
-        calls::read(&with(&[map(&[top, 4097, 1])])),
+        calls::read(&with(&[map(&[TOP, 4097, 1])])),
         refused(Range, THIRD)
     );
-    assert_eq!(calls::read(&with(&[module(top, 4096)])), THIRD + 96);
+    assert_eq!(calls::read(&with(&[module(TOP, 4096)])), THIRD + 96);
     assert_eq!(
-        calls::read(&with(&[module(top, 4097)])),
+        calls::read(&with(&[module(TOP, 4097)])),
         refused(Range, THIRD)
     );
     // A module up to 2^64 holds the last address; nothing may follow such an entry.
-    let bytes = with(&[module(0, 1), module(top, 4096)]);
+    let bytes = with(&[module(0, 1), module(TOP, 4096)]);
     assert_eq!(calls::module_holding(&bytes, u64::MAX), THIRD + 96);
-    assert_eq!(calls::module_holding(&bytes, top - 1), 0);
-    assert_eq!(calls::module_holding(&bytes, 1), 0);
+    assert_eq!(calls::module_holding(&bytes, TOP - 1), 0);
+    assert_eq!(calls::module_holding(&bytes, 4_096), 0);
+    assert_eq!(calls::module_holding(&bytes, 1), THIRD);
     assert_eq!(calls::module_holding(&bytes, 0), THIRD);
     for after in [0, u64::MAX] {
-        let entries = [top, 4096, 1, after, 0, 1];
+        let entries = [TOP, 4096, 1, after, 0, 1];
         assert_eq!(calls::read(&with(&[map(&entries)])), refused(Order, THIRD));
+    }
+}
+
+/// Asks a context of these modules for each address, whose answer stands beside it.
+#[track_caller]
+fn assert_holding(modules: &[(u64, u64)], answers: &[(u64, u64)]) {
+    let attributes: Vec<_> = modules
+        .iter()
+        .map(|(at, size)| module(*at, *size))
+        .collect();
+    let bytes = with(&attributes);
+    for (address, start) in answers {
+        let answer = calls::module_holding(&bytes, *address);
+        assert_eq!(answer, *start, "{address} of {modules:?}");
+    }
+}
+
+#[test]
+fn a_module_fills_its_last_page() {
+    // "A module of 4,097 bytes at 8,192 holds 16,383 and not 16,384."
+    assert_holding(&[(8_192, 4_097)], &[(16_383, THIRD), (16_384, 0)]);
+    for (size, end) in [
+        (1, 12_288),
+        (4_095, 12_288),
+        (4_096, 12_288),
+        (4_097, 16_384),
+        (8_191, 16_384),
+        (8_192, 16_384),
+        (8_193, 20_480),
+    ] {
+        let held = [8_192, 8_191 + size, (8_192 + size).min(end - 1), end - 1];
+        assert_holding(&[(8_192, size)], &held.map(|address| (address, THIRD)));
+        let beside = [0, 8_191, end, end + 1, u64::MAX];
+        assert_holding(&[(8_192, size)], &beside.map(|address| (address, 0)));
+    }
+    // "a size of 0 still holds nothing"
+    for address in [0, 8_192, TOP] {
+        let near = [
+            0,
+            address,
+            address + 1,
+            address + 4_095,
+            address.wrapping_sub(1),
+            u64::MAX,
+        ];
+        assert_holding(&[(address, 0)], &near.map(|address| (address, 0)));
+    }
+}
+
+#[test]
+fn the_last_page_of_all_is_filled_too() {
+    for (address, size) in [
+        (TOP, 1),
+        (TOP, 4_095),
+        (TOP, 4_096),
+        (TOP - 4_096, 4_097),
+        (4_096, TOP - 4_095),
+        (4_096, TOP),
+    ] {
+        let held = [address, TOP, TOP + 1, u64::MAX - 1, u64::MAX];
+        assert_holding(&[(address, size)], &held.map(|address| (address, THIRD)));
+        assert_holding(&[(address, size)], &[(0, 0), (address - 1, 0)]);
+    }
+    // Sizes above 2^64 - 4,096 become 2^64, and hold every address.
+    for size in [TOP + 1, u64::MAX - 1, u64::MAX] {
+        let all = [0, 1, 4_096, TOP - 1, TOP, u64::MAX - 1, u64::MAX];
+        assert_holding(&[(0, size)], &all.map(|address| (address, THIRD)));
+    }
+    let short = [(0, THIRD), (TOP - 1, THIRD), (TOP, 0), (u64::MAX, 0)];
+    assert_holding(&[(0, TOP)], &short);
+    assert_holding(&[(0, TOP - 1)], &short);
+}
+
+#[test]
+fn the_first_module_that_holds_an_address_is_answered() {
+    // From 8,193 on past the size of one and within that of the other.
+    let (low, high, second) = ((4_096, 4_097), (8_192, 4_096), THIRD + 96);
+    for modules in [[low, high], [high, low]] {
+        let first = [8_192, 8_193, 12_287].map(|address| (address, THIRD));
+        assert_holding(&modules, &first);
+        assert_holding(&modules, &[(12_288, 0)]);
+    }
+    assert_holding(&[high, low], &[(8_191, second)]);
+    assert_holding(&[(8_192, 0), high], &[(8_192, second), (12_287, second)]);
+    assert_holding(&[(0, 1), (0, u64::MAX)], &[(4_095, THIRD), (4_096, second)]);
+    assert_holding(&[(0, u64::MAX), (TOP, 4_096)], &[(u64::MAX, THIRD)]);
+}
+
+#[test]
+fn only_the_question_about_an_address_rounds() {
+    let bytes = with(&[module(8_192, 4_097)]);
+    let lines = listing(&bytes);
+    let lines = str::from_utf8(&lines).unwrap();
+    assert!(lines.contains("\nmodule=1,8192,4097\n"), "{lines}");
+    let third = questions::attribute(&bytes, 2).unwrap();
+    assert_eq!(Module::parse(third.bytes).unwrap().size, 4_097);
+    // The range rule goes by the size as it is, in reading and in adding.
+    for (size, answer) in [
+        (4_095, THIRD + 96),
+        (4_096, THIRD + 96),
+        (4_097, refused(Range, THIRD)),
+    ] {
+        assert_eq!(calls::read(&with(&[module(TOP, size)])), answer);
+        let mut buf = with(&[]);
+        buf.extend([0; 96]);
+        assert_eq!(calls::add_module(&mut buf, 1, b"m", TOP, size), answer);
     }
 }
 

@@ -4,7 +4,7 @@ use mathlib.Core.Path.{sym, ap₂, _∙_}
 use native.Mathlib.Omega.{arith}
 use denote.Ref.{now}
 use Rattle.ultra_format.proofs.Sizes.{module-least}
-use Rattle.address_ranges.specs.Ranges.{covers}
+use Rattle.address_ranges.specs.Ranges.{pagesCover}
 use Rattle.ultra_questions.proofs.BodyLaws.{no-module, is-module}
 use borrow.Author.Needs.{needs}
 use Rattle.ultra_questions.proofs.module.holds.Statement.{statement}
@@ -36,15 +36,15 @@ add-load-u64-2 c = search needs
 load-u64-requires-2 : tie.Need-load-u64-requires-2
 load-u64-requires-2 c κs = omega (arith, least (c .before))
 
-covers-requires : tie.Need-covers-requires
-covers-requires c κs = search needs
+pages-cover-requires : tie.Need-pages-cover-requires
+pages-cover-requires c κs = search needs
 
 returns-2 : tie.Need-returns-2
 returns-2 c =
     let d = c .before .before .before in
     let s = d .before .before .before .args in
-    c .covers .ensures
-    ∙ ap₂ (λ (p n : ℕ). covers p n (s .address)) (c .before .before .load-u64 .ensures) (c .before .load-u642 .ensures)
+    c .pages-cover .ensures
+    ∙ ap₂ (λ (p n : ℕ). pagesCover p n (s .address)) (c .before .before .load-u64 .ensures) (c .before .load-u642 .ensures)
     ∙ is-module (now (s .buf)) (s .at) (s .size) _ (s .address) (sym (d .before .load-u32 .ensures) ∙ d .if1 .left)
 
 pub holds-spec : {M : Type 1} → statement M
@@ -57,5 +57,5 @@ holds-spec =
     load-u64-requires
     add-load-u64-2
     load-u64-requires-2
-    covers-requires
+    pages-cover-requires
     returns-2)
