@@ -2,6 +2,7 @@
 //! knows what has to be met, so that a comparison that looks at nothing is no success.
 
 pub mod maps;
+pub mod modules;
 
 use crate::generator::inputs::Kind;
 
@@ -118,7 +119,7 @@ impl Tally {
         self.shapes[place] += 1;
     }
 
-    /// Counts an answer whose number cannot be given there.
+    /// Counts an answer that cannot be given there.
     pub fn impossible(&mut self) {
         self.strange += 1;
     }
@@ -210,7 +211,7 @@ impl Tally {
         }
         if self.strange > 0 {
             gaps.push(format!(
-                "{} answers have an impossible number",
+                "{} answers have an impossible number or value",
                 self.strange
             ));
         }

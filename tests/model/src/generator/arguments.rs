@@ -1,7 +1,7 @@
 //! Arguments that suit a buffer: about its offsets, counts, ranges and room.
 
 use crate::generator::contexts::ROOM;
-use crate::generator::records::{lend, Record};
+use crate::generator::records::{lend, Record, PAGE};
 use crate::generator::rng::Rng;
 
 use crate::generator::call::Call;
@@ -190,23 +190,15 @@ impl<'a> View<'a> {
         let module = modules[rng.below(modules.len())];
         let address = u64_at(self.bytes, module.start + 80);
         let size = u64_at(self.bytes, module.start + 88);
-        let end = address.wrapping_add(size);
         let inside = address.wrapping_add(any.min(size));
-        let address = rng.pick(&[
-            address,
-            address,
-            address.wrapping_sub(1),
-            address.wrapping_add(1),
-            end.wrapping_sub(1),
-            end.wrapping_sub(1),
-            end,
-            end.wrapping_add(1),
-            inside,
-            inside,
-            0,
-            u64::MAX,
-            any,
-        ]);
+        // Where the size ends and where its last page does; 2^64 is 0 here.
+        let end = address.wrapping_add(size);
+        let page_end = end.div_ceil(PAGE).wrapping_mul(PAGE);
+        let in_tail = end.wrapping_add(any % page_end.wrapping_sub(end).max(1));
+        // At an edge, one before it or one after it.
+        let edge = rng.pick(&[address, end, page_end, 0]);
+        let beside = edge.wrapping_sub(1).wrapping_add(rng.below(3) as u64);
+        let address = rng.pick(&[beside, beside, beside, inside, in_tail, any]);
         Call::ModuleHolding { address }
     }
 

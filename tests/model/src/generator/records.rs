@@ -63,7 +63,7 @@ pub enum Record {
     Other(u32, usize),
 }
 
-const PAGE: u64 = 4096;
+pub const PAGE: u64 = 4096;
 
 pub fn lend(rng: &mut Rng, bytes: Vec<u8>) -> Given {
     Given {
@@ -431,8 +431,21 @@ fn map(rng: &mut Rng, spoilt: usize) -> Given {
     lend(rng, bytes)
 }
 
+/// A good range, or a few pages at the start or the end of the address space, where modules
+/// overlap and a size ends about the end of a page.
+fn module_range(rng: &mut Rng) -> (u64, u64) {
+    if rng.chance(60) {
+        return range(rng, PAGE, 1);
+    }
+    let last = u64::MAX / PAGE * PAGE;
+    let address = rng.pick(&[0, PAGE, 2 * PAGE, last - PAGE, last]);
+    let most = if address == last { PAGE } else { 2 * PAGE };
+    let size = rng.pick(&[0, 1, PAGE - 1, PAGE, PAGE + 1, most]);
+    (address, size.min(most))
+}
+
 fn module(rng: &mut Rng) -> Module {
-    let (address, size) = range(rng, PAGE, 1);
+    let (address, size) = module_range(rng);
     let length = text_length(rng, 64);
     let name = plain_text(rng, length);
     Module {

@@ -3,7 +3,7 @@
 use ultra_model::generator::call::{Call, CALLS};
 use ultra_model::generator::given::Given;
 use ultra_model::tally::{
-    adding, asking, joined, maps, Row, Tally, BEGINNING, COPYING, NONE, READING, STEPPING,
+    adding, asking, joined, maps, modules, Row, Tally, BEGINNING, COPYING, NONE, READING, STEPPING,
 };
 
 /// In the order of [`Call::id`]. The command line has no number. A platform has no 12 of its
@@ -40,7 +40,9 @@ ultra_model::shapes! {
 }
 
 /// The names of all shapes.
-pub const ALL: &[&str] = &joined::<{ SHAPES.len() + maps::SHAPES.len() }>(&[SHAPES, maps::SHAPES]);
+pub const ALL: &[&str] = &joined::<COUNT>(&[SHAPES, maps::SHAPES, modules::SHAPES]);
+
+const COUNT: usize = SHAPES.len() + maps::SHAPES.len() + modules::SHAPES.len();
 
 fn met(tally: &mut Tally, shape: Shape) {
     tally.shape(shape as usize);
@@ -49,6 +51,22 @@ fn met(tally: &mut Tally, shape: Shape) {
 fn of_map(tally: &mut Tally, met: Vec<usize>) {
     met.into_iter()
         .for_each(|place| tally.shape(SHAPES.len() + place));
+}
+
+/// Counts what was answered of an address in a buffer that is accepted.
+fn holding(tally: &mut Tally, buf: &[u8], address: u64, start: u32) {
+    let shape = match start {
+        0 => Shape::NoModule,
+        _ => Shape::ModuleFound,
+    };
+    met(tally, shape);
+    let Some(shapes) = modules::asked(buf, address, start.into()) else {
+        return tally.impossible();
+    };
+    let first = SHAPES.len() + maps::SHAPES.len();
+    for shape in shapes {
+        tally.shape(first + shape as usize);
+    }
 }
 
 pub fn buffer(tally: &mut Tally, given: &Given) {
@@ -69,7 +87,7 @@ pub fn slice(tally: &mut Tally, given: &Given) {
     }
 }
 
-/// Counts an answer that both sides gave; a reading's is about this buffer.
+/// Counts an answer that both sides gave about this buffer.
 pub fn answer(tally: &mut Tally, call: &Call, answer: u64, buf: &[u8], buffer_accepted: bool) {
     let (number, value) = (answer >> 32, answer as u32);
     if let Call::CommandLine = call {
@@ -92,8 +110,7 @@ pub fn answer(tally: &mut Tally, call: &Call, answer: u64, buf: &[u8], buffer_ac
         // A count above 1,024 is 3 at 0.
         (Call::Attribute { .. }, 3, 1..) => met(tally, Shape::IndexPastTheCount),
         (Call::CopyMap { .. }, 0, 0) => met(tally, Shape::EmptyMapCopied),
-        (Call::ModuleHolding { .. }, 0, 0) => met(tally, Shape::NoModule),
-        (Call::ModuleHolding { .. }, 0, _) => met(tally, Shape::ModuleFound),
+        (Call::ModuleHolding { address }, 0, start) => holding(tally, buf, *address, start),
         _ => {}
     }
 }

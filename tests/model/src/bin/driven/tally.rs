@@ -8,7 +8,8 @@ use ultra_model::driving::table::*;
 use ultra_model::driving::Answer;
 use ultra_model::format::{self, MODULE_NAME_WIDTH, NAME_WIDTH, PATH_WIDTH};
 use ultra_model::tally::{
-    adding, asking, joined, maps, set, Row, Tally, BEGINNING, COPYING, NONE, READING, STEPPING,
+    adding, asking, joined, maps, modules, set, Row, Tally, BEGINNING, COPYING, NONE, READING,
+    STEPPING,
 };
 
 use crate::spelling::Asked;
@@ -197,6 +198,12 @@ impl Counted for writings::Shape {
     }
 }
 
+impl Counted for modules::Shape {
+    fn place(self) -> usize {
+        SHAPES.len() + payloads::SHAPES.len() + writings::SHAPES.len() + self as usize
+    }
+}
+
 /// A shape of a map, by its place among the names of those.
 #[derive(Clone, Copy)]
 struct OfMap(usize);
@@ -210,9 +217,18 @@ impl Counted for OfMap {
 /// The names of all shapes.
 pub const ALL: &[&str] = &joined::<COUNT>(FILES);
 
-const FILES: &[&[&str]] = &[SHAPES, payloads::SHAPES, writings::SHAPES, maps::SHAPES];
-const COUNT: usize =
-    SHAPES.len() + payloads::SHAPES.len() + writings::SHAPES.len() + maps::SHAPES.len();
+const FILES: &[&[&str]] = &[
+    SHAPES,
+    payloads::SHAPES,
+    writings::SHAPES,
+    modules::SHAPES,
+    maps::SHAPES,
+];
+const COUNT: usize = SHAPES.len()
+    + payloads::SHAPES.len()
+    + writings::SHAPES.len()
+    + modules::SHAPES.len()
+    + maps::SHAPES.len();
 
 /// A call that both sides made.
 pub struct Made<'a> {
@@ -281,10 +297,7 @@ pub fn count(tally: &mut Tally, made: &Made) {
         ATTRIBUTE_PART => part(shapes, made),
         COPY_MAP | COPY_MAP_BYTES => copied(shapes, made),
         COMMAND_LINE => line(shapes, made),
-        MODULE_HOLDING if made.number() == 0 => shapes.met(match made.value() {
-            0 => Shape::NoModule,
-            _ => Shape::ModuleFound,
-        }),
+        MODULE_HOLDING if made.number() == 0 => holding(shapes, made),
         ADD_PLATFORM | MEMBERS_ADD_PLATFORM => platform(shapes, made),
         ADD_KERNEL => kernel(shapes, made),
         ADD_MODULE => array(shapes, made.given(), MODULE_NAME_WIDTH),
@@ -307,6 +320,17 @@ pub fn count(tally: &mut Tally, made: &Made) {
 
 fn of_map(shapes: &mut Shapes, met: Vec<usize>) {
     met.into_iter().for_each(|place| shapes.met(OfMap(place)));
+}
+
+fn holding(shapes: &mut Shapes, made: &Made) {
+    shapes.met(match made.value() {
+        0 => Shape::NoModule,
+        _ => Shape::ModuleFound,
+    });
+    match modules::asked(made.before, made.asked.numbers[0], made.value()) {
+        Some(met) => met.into_iter().for_each(|shape| shapes.met(shape)),
+        None => shapes.impossible(),
+    }
 }
 
 fn buffer(shapes: &mut Shapes, made: &Made) {
