@@ -33,7 +33,7 @@ use Rattle.ultra_locating.specs.Searching.{firstIn, foundStart, ofType}
 use Rattle.ultra_question_statements.specs.EveryBuffer.{RefusedBy, MapHeld, NoLine, LineHeld, AnswersOf, EveryBuffer}
 use Rattle.ultra_question_statements.specs.QuestionRefusals.{MapRefused, QuestionsRefuseExactly, RefusalsPassOn}
 use Rattle.ultra_question_statements.specs.ByContext.{QuestionsByContext}
-use Rattle.ultra_question_statements.specs.ByIndex.{ModuleAt, NoModule, ModuleStart, QuestionsByIndex}
+use Rattle.ultra_question_statements.specs.ByIndex.{ModuleAt, NoModule, ModuleStart, HoldsAddress, QuestionsByIndex}
 use Rattle.ultra_question_statements.specs.LastPage.{SamePage, OnPage, LastPage}
 use Rattle.ultra_question_statements.specs.MapAsBytes.{CopiesBytes}
 use Rattle.ultra_questions.specs.AttributeQuestion.{answered, withMembers, attributeStart, attributeAnswer, PartHandedBack}
@@ -208,6 +208,13 @@ module _ (refuse : QuestionsRefuseExactly) (pass : RefusalsPassOn) (byContext : 
   page-free : (a : ℕ) → (moduleHolding b a ≡ Done 0) ↔ ((c : Context) × HoldsContext 2 b c × NoModule (OnPage a) c)
   page-free a = (λ e. let k = page-start a 0 .0 e in (k .0, k .1, none-said (OnPage a) (k .0) (k .2)), λ k. page-start a 0 .1 (k .0, k .1, inl (refl, k .2)))
 
+  held-below : (a o : ℕ) → moduleHolding b a ≡ Done o → 1 ≤ o → a < 18446744073709551616
+  held-below a o e l = let k = module-held a o e in below (k .0) (k .1) (byIndex b (k .0) (k .1) .modules a o .0 e)
+    where
+      below : (c : Context) → HoldsContext 2 b c → ModuleStart (HoldsAddress a) c o → a < 18446744073709551616
+      below c h (inl n) = absurd (omega (arith, n .0))
+      below c h (inr (i, e, f)) = let g = f .0 in let w = lastPage .contexts b c h .fits i (g .0) (g .1) in omega (arith, g .2)
+
   one-page : (a x : ℕ) → SamePage a x → Either b y → moduleHolding b a ≡ moduleHolding b x
   one-page a x s (inl (r, e)) = pass b r e .modules a ∙ sym (pass b r e .modules x)
   one-page a x s (inr (c, h)) =
@@ -253,6 +260,7 @@ module _ (refuse : QuestionsRefuseExactly) (pass : RefusalsPassOn) (byContext : 
             );
         modulePage = page-start;
         pageFree = page-free;
+        heldBelow = held-below;
         onePage = λ a x s. one-page a x s (either b y);
         line = λ lent s e p. line-is lent s e p (either b y);
       }

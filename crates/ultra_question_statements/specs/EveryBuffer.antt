@@ -1,8 +1,9 @@
 -- Statement: what the questions answer of every buffer of bytes, whatever it holds: exactly when each refuses, and of what list it answers
 -- where it does not. Reading is the call `read`. Proved in proofs/EveryBuffer.antt, `every-buffer`, from the statements of
--- QuestionRefusals, ByIndex, ByContext and MapAsBytes, and from `pages` of LastPage, alone: one that asked for more would not give it.
+-- QuestionRefusals, ByIndex, ByContext and MapAsBytes, and from `pages` and `fits` of LastPage, alone: one that asked for more would not
+-- give it.
 -- A reader has to believe this file.
-use Prim.Native.Nat.{ℕ, _+_, _/_, _<_}
+use Prim.Native.Nat.{ℕ, _+_, _/_, _≤_, _<_}
 use mathlib.Core.Path.{_≡_}
 use mathlib.Core.Logic.{_↔_, _⊎_}
 use mathlib.Core.List.{List, []}
@@ -68,6 +69,8 @@ pub record AnswersOf (b : List ℕ) : Type 0 where
   pub modulePage : (a o : ℕ) → (moduleHolding b a ≡ Done o) ↔ ((c : Context) × HoldsContext 2 b c × ModuleStart (OnPage a) c o)
   -- "the page was given to the allocator": 0 now tells that no module has a byte on the page
   pub pageFree : (a : ℕ) → (moduleHolding b a ≡ Done 0) ↔ ((c : Context) × HoldsContext 2 b c × NoModule (OnPage a) c)
+  -- "the rounded end can't pass 2^64": no address from there on is held
+  pub heldBelow : (a o : ℕ) → moduleHolding b a ≡ Done o → 1 ≤ o → a < 18446744073709551616
   -- every address of a page gets the same answer, of a refused buffer too
   pub onePage : (a x : ℕ) → SamePage a x → moduleHolding b a ≡ moduleHolding b x
   -- "The command line is handed back as that part of the buffer, up to its zero; an empty part if there is none or the buffer is refused."

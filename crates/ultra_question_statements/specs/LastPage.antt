@@ -12,6 +12,7 @@ use Rattle.ultra_format.specs.MemberRules.{Ends}
 use Rattle.ultra_acceptance.specs.Acceptance.{HoldsContext}
 use Rattle.ultra_question_statements.specs.ByIndex.{ModuleAt, HoldsAddress}
 
+-- two addresses are on one page of memory
 abbrev pub SamePage : ℕ → ℕ → Type 0
 SamePage a x = a / 4096 ≡ x / 4096
 
