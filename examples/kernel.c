@@ -29,6 +29,9 @@ enum { RANGES_MAX = 128 };
 
 static struct range ranges[RANGES_MAX];
 
+/* The text that the board carries, for a context without a command line. */
+static const uint8_t board_text[] = "console=serial";
+
 /* An address that the kernel wonders about, such as that of a fault. The answer is that of its page: a module's last page is held whole. */
 static const uint64_t fault_address = 0x301C00;
 
@@ -89,12 +92,14 @@ static uint64_t print_holder(const uint8_t *buf, size_t len, uint64_t address)
     return answer;
 }
 
-/* The one call without a refusal: where there is no command line, the start is 0. */
+/* The one call without a refusal: 0 where there is no command line, and then the board's text counts. An empty one is not 0. */
 static void print_command_line(const uint8_t *buf, size_t len)
 {
     uint64_t line = ultra_command_line(buf, len);
 
-    if (ultra_text_start(line) != 0)
+    if (line == 0)
+        print_text("cmdline", board_text, sizeof board_text - 1);
+    else
         print_text("cmdline", buf + ultra_text_start(line), ultra_text_length(line));
 }
 

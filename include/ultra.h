@@ -415,7 +415,8 @@ uint64_t ultra_copy_map(const uint8_t *buf, size_t buf_len, uint8_t *out, size_t
 /*
  * The command line. It has no refusals, and its answer is no number and value:
  * the text's start * 2^32 + its length, see ultra_text_start and ultra_text_length; 0 where the context has no command line or
- * reading refuses it. An empty command line has a start and the length 0, so it is told from none.
+ * reading refuses it. A caller with a text of its own, such as the board's default, takes that then. An empty command line has a
+ * start and the length 0, so it is told from none: it is the line, and no text of the caller's goes in its place.
  */
 uint64_t ultra_command_line(const uint8_t *buf, size_t buf_len);
 

@@ -1,8 +1,8 @@
 # The examples in C: compiled as a user would, run, and what they make compared. The Makefile at the root includes this after
 # tests.mk; paths are from there.
 #
-#   make test-examples                the loader's context is document 01's, the kernel prints what it should of it and of one with
-#                                     a module, and both say what was refused
+#   make test-examples                the loader's context is document 01's, the kernel prints what it should of it, of one with
+#                                     a module and of those with an empty command line and with none, and both say what was refused
 #
 # What is made stands in target/tests/examples.
 
@@ -27,6 +27,11 @@ test-examples: need-cc $(EXAMPLES_OUT)/loader $(EXAMPLES_OUT)/kernel
 	$(EXAMPLES_OUT)/loader $(EXAMPLES_OUT)/module.bin 0x300000
 	$(EXAMPLES_OUT)/kernel $(EXAMPLES_OUT)/module.bin >$(EXAMPLES_OUT)/module.out
 	diff examples/kernel-module.expected $(EXAMPLES_OUT)/module.out
+	@# Without a command line the board's text counts, and with an empty one it does not.
+	$(EXAMPLES_OUT)/kernel samples/range_that_touches.bin | grep '^cmdline=' >$(EXAMPLES_OUT)/no_line.out
+	echo 'cmdline=console=serial' | diff - $(EXAMPLES_OUT)/no_line.out
+	$(EXAMPLES_OUT)/kernel samples/empty_map_and_texts.bin | grep '^cmdline=' >$(EXAMPLES_OUT)/empty_line.out
+	echo 'cmdline=' | diff - $(EXAMPLES_OUT)/empty_line.out
 	@# A module at no multiple of 4,096 is refused (13), with the used length, and the context stays as it was.
 	$(EXAMPLES_OUT)/loader $(EXAMPLES_OUT)/refused.bin 0x300001 2>$(EXAMPLES_OUT)/refused.out
 	echo 'loader: labels refused=13,480' | diff - $(EXAMPLES_OUT)/refused.out

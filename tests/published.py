@@ -8,10 +8,11 @@ held of each:
 
     requires    It has none: "no call relies on a check made before it" (demand 1).
     ensures     It has one, an equation of all that it answers and writes with a term E: `r ≡ E`; `(r, now (P .exit)) ≡ E` where P is lent
-                to write; `PartOf r (buf .entry) (E)` where it hands back a slice.
+                to write. Where it hands back a slice it is `DHandedBack r (buf .entry) ..`, of the other parameters in their order, and
+                the equation of that definition has E: `PartOf lent s (E)`, or `LineOrBoard lent s board (E)`.
     E           It is the term that demand 2 runs the call by, and each name in it is the same definition. The promises use this definition:
                 of a call whose contract was weakened, or cites another one, they would say nothing.
-    its row     The first name in the last cell is that definition, without what crosses it toward C.
+    its row     The first name in the last cell is that definition, without what crosses it toward C, or `DHandedBack`.
 
 Demand 2 runs a call that writes by the equation of `runWrite` (crates/demand_2/specs/Calls.antt) for the case of `Write` whose comment names
 it, a question by that of `replyOf` for the case of `Question`, and a call toward C by that of `runWriteFromC` or `replyFromC` (CallsFromC.antt)
@@ -19,8 +20,8 @@ for the case of `WriteFromC` or `QuestionFromC` with its name. `run` and `runFro
 Every case stands for published calls, and one case for every published call but `Cursor::first`, which takes no buffer.
 
 The calls of the table "Calls on Handover payloads" do not join demand 2, which speaks of contexts. Of each, E is one definition of all its
-parameters in their order, and where it hands back a slice the contract is `DHandedBack r (buf .entry) ..`, of the other parameters in their
-order; the definition is one that PROMISES_ON_PAYLOADS speak of, and the first that its row names.
+parameters in their order, or the contract is a `DHandedBack` as above; the definition is one that PROMISES_ON_PAYLOADS speak of, and the
+first that its row names.
 
 Every exported function of crate ultra is published, and so is every public function of a crate that a published call's path names, but for
 those of INNER.
@@ -38,7 +39,11 @@ ADDITIONS = "crates/ultra_format/specs/Additions.antt"
 WITHOUT_BUFFER = {"Cursor::first": ("cursorAt 0 8", {"cursorAt": "Rattle.ultra_stepping.specs.Stepping.cursorAt"})}
 # Where the promises on payloads are stated.
 PROMISES_ON_PAYLOADS = ("crates/handover_demand_3/specs/PayloadDemand3.antt", "crates/handover_written/specs/WritesBack.antt")
-RELATIONS = {"≡": ("_≡_", "mathlib.Core.Path._≡_"), "PartOf": ("PartOf", "Rattle.lent_buffers.specs.LentParts.PartOf")}
+EQUALITY = "mathlib.Core.Path._≡_"
+# What a slice that is handed back is held by, and what tells the same by values in demand 2: of the buffer, what else is lent, and a term.
+SLICES = {"PartOf": "lentPart", "LineOrBoard": "lentLine"}
+SLICE_ORIGINS = {"PartOf": "Rattle.lent_buffers.specs.LentParts.PartOf",
+                 "LineOrBoard": "Rattle.ultra_questions.specs.CommandLineQuestion.LineOrBoard"}
 # Public functions, of crates that publish calls, that only this repository calls.
 INNER = {"ultra_reading::next_place_check", "ultra_reading::used_length"}
 # What stands around the definition that the page names.
@@ -48,13 +53,14 @@ WRITERS = {"Write": "runWrite", "WriteFromC": "runWriteFromC"}
 ASKERS = {"Question": "replyOf", "QuestionFromC": "replyFromC"}
 # What they make of a term: both halves of its pair, or the place and the bytes of a part.
 WRITES = {"answerAnd r": "(answer (r .0), r .1)", "severalAnd r": "(several (r .0), r .1)", "numberAnd r": "(number (r .0), r .1)"}
-LENDS = {"lentPart b p": "lent p (bytesAt b (p .start) (p .length))"}
+LENDS = {"lentPart b p": "lent p (bytesAt b (p .start) (p .length))",
+         "lentLine b board none": "boardText board", "lentLine b board (found o a)": "lentPart b (bodyPart o (a .body))"}
 # What a call is made of.
 KINDS = {"run (write w) b": "runWrite w b", "run (ask q) b": "(replyOf q b, b)",
          "runFromC (writeFromC w) b": "runWriteFromC w b", "runFromC (askFromC q) b": "(replyFromC q b, b)"}
 
 Call = collections.namedtuple("Call", "path file cell")
-Function = collections.namedtuple("Function", "parameters lent clauses imports")
+Function = collections.namedtuple("Function", "parameters borrowed lent clauses imports")
 Spec = collections.namedtuple("Spec", "file text imports")
 Case = collections.namedtuple("Case", "name type calls spec runner")
 Held = collections.namedtuple("Held", "form term imports")
@@ -119,6 +125,13 @@ def at_entry(term):
     if len(term) == 2 and term[0] == "now" and isinstance(term[1], tuple) and len(term[1]) == 2 and term[1][1] == ".entry":
         return term[1][0]
     return tuple(at_entry(part) for part in term)
+
+
+def without_now(term):
+    """The term with X for `X .now`."""
+    if isinstance(term, str):
+        return term
+    return without_now(term[0]) if len(term) == 2 and term[1] == ".now" else tuple(without_now(part) for part in term)
 
 
 def unqualified(term):
@@ -236,17 +249,18 @@ def inside(text, start, ends):
 
 
 def parameters_of(text):
-    """(name, whether it is lent to write) of each parameter."""
+    """(name, whether it is lent, whether to write) of each parameter."""
     for parameter in filter(None, re.split(r",\s*(?=\w+\s*:|$)", text.strip())):
         found = re.fullmatch(r"(?:mut )?(\w+): ((?:[^:]|::)+)|(self)", parameter)
         if not found:
             raise Unreadable(f"a parameter `{parameter}`, expected a name and a type, or self")
-        yield found[1] or found[3], bool(re.match(r"&\s*(?:'\w+\s+)?mut\b", found[2] or ""))
+        kind = found[2] or ""
+        yield found[1] or found[3], kind.startswith("&"), bool(re.match(r"&\s*(?:'\w+\s+)?mut\b", kind))
 
 
 def clauses_of(text, at):
     """(kind, text) of each clause, after the parameters and the result, up to the body."""
-    at = re.compile(r"(?:\s*->\s*\S+)?").match(text, at).end()
+    at = re.compile(r"(?:\s*->\s*(?:&'\w+\s+)?\S+)?").match(text, at).end()
     clauses = []
     while True:
         found = re.compile(r"\s*(\w*)\s*(?=\{)").match(text, at)
@@ -278,17 +292,18 @@ def passed_on(call):
 def function_of(call):
     name = call.path.split("::")[-1]
     source = read(call.file)
-    found = [line for line in re.finditer(rf"^.*\bfn {name}\b", source, re.M) if not line[0].lstrip().startswith("//")]
+    found = [line for line in re.finditer(rf"^.*\bfn {name}\b(?:<'\w+>)?", source, re.M) if not line[0].lstrip().startswith("//")]
     if len(found) != 1:
         raise Unreadable(f"found {len(found)} times, expected once")
-    if not re.fullmatch(r'\s*pub (?:extern "C" )?fn \w+', found[0][0]) or source[found[0].end():][:1] != "(" or "/*" in source:
+    if not re.fullmatch(r"\s*pub (?:extern \"C\" )?fn \w+(?:<'\w+>)?", found[0][0]) or source[found[0].end():][:1] != "(" or "/*" in source:
         raise Unreadable(f"`{found[0][0].strip()}`, expected `pub fn {name}(..)` in a file without block comments")
     if not passed_on(call):
         raise Unreadable("lib.rt does not pass it on under this path, expected a `pub use` or `pub mod`")
     inner, at = inside(source, found[0].end(), "()")
     parameters = list(parameters_of(inner))
-    lent = [parameter for parameter, to_write in parameters if to_write]
-    return Function([parameter for parameter, _ in parameters], lent, clauses_of(source, at), imported(source))
+    borrowed = {parameter for parameter, is_lent, _ in parameters if is_lent}
+    lent = [parameter for parameter, _, to_write in parameters if to_write]
+    return Function([parameter for parameter, _, _ in parameters], borrowed, lent, clauses_of(source, at), imported(source))
 
 
 def stated(function):
@@ -300,8 +315,8 @@ def stated(function):
     found = re.fullmatch(r"λ r\. ⌜([^⌜⌝]*)⌝", text)
     if not found:
         raise Unreadable(f"ensures `{text}`, expected `λ r. ⌜ .. ⌝`")
-    if len(function.lent) > 1 or {"r", "now", "PartOf"} & set(function.parameters):
-        raise Unreadable(f"parameters {', '.join(function.parameters)}, expected one `&mut` at most, and none named r, now or PartOf")
+    if len(function.lent) > 1 or {"r", "now"} & set(function.parameters):
+        raise Unreadable(f"parameters {', '.join(function.parameters)}, expected one `&mut` at most, and none named r or now")
     return parsed(found[1])
 
 
@@ -314,18 +329,42 @@ def left_side(function):
 def contract(function):
     """What the contract equates the call with."""
     said, left = stated(function), left_side(function)
-    if not function.lent and len(said) == 4 and said[:3] == ("PartOf", "r", ("buf", ".entry")):
-        form, relation, term = "part", "PartOf", said[3]
-    else:
-        sides = divided(said, "≡")
-        if len(sides) != 2 or sides[0] != parsed(left):
-            raise Unreadable(f"ensures `{shown(said)}`, expected `{left} ≡ ..`")
-        form, relation, term = "writes" if function.lent == ["buf"] else "reads", "≡", sides[1]
-    name, origin = RELATIONS[relation]
-    if whole_name(name, function.imports) != origin:
-        raise Unreadable(f"{relation} is {whole_name(name, function.imports)}, expected {origin}")
+    sides = divided(said, "≡")
+    if len(sides) != 2 or sides[0] != parsed(left):
+        raise Unreadable(f"ensures `{shown(said)}`, expected `{left} ≡ ..`")
+    if whole_name("_≡_", function.imports) != EQUALITY:
+        raise Unreadable(f"≡ is {whole_name('_≡_', function.imports)}, expected {EQUALITY}")
     marked = {parameter: f"«{parameter}»" for parameter in function.parameters}
-    return Held(form, substituted(at_entry(term), marked), function.imports)
+    form = "writes" if function.lent == ["buf"] else "reads"
+    return Held(form, substituted(at_entry(sides[1]), marked), function.imports)
+
+
+def handed_back(function):
+    """The contract of a call that hands a slice back, or None: (what it says, what it has to say of all parameters in their order)."""
+    said = stated(function)
+    if not (isinstance(said, tuple) and isinstance(said[0], str) and said[0].endswith("HandedBack")):
+        return None
+    given = ((name, ".entry") if name in function.borrowed else name for name in function.parameters)
+    return Held("slice", said, function.imports), (said[0], "r", *given)
+
+
+def unlike(found, expected):
+    return [] if found.term == expected else [f"contract has `{shown(found.term)}`, expected `{shown(expected)}`"]
+
+
+def slice_of(function, handed, root):
+    """What the equation of `DHandedBack` holds the slice by, at the function's parameters."""
+    name = handed.term[0]
+    spec = defining(whole_name(name, handed.imports), root)
+    found = list(equations(spec, name))
+    left, right = (found[0][0], parsed(found[0][1], f"{spec.file}: ")) if len(found) == 1 else ((), ())
+    relation = right[0] if right else None
+    if relation not in SLICES or right[1:3] != left[1:3] or len(left) != len(handed.term):
+        raise Unreadable(f"{spec.file}: `{name}`, expected one equation, {' or '.join(f'`{slice} lent s .. (..)`' for slice in SLICES)}")
+    if whole_name(relation, spec.imports) != SLICE_ORIGINS[relation]:
+        raise Unreadable(f"{relation} is {whole_name(relation, spec.imports)}, expected {SLICE_ORIGINS[relation]}")
+    values = dict(zip(left[2:], (f"«{parameter}»" for parameter in function.parameters)))
+    return Held(relation, substituted(without_now(one(right[3:])), values), spec.imports)
 
 
 # ---- Demand 2 ----
@@ -334,6 +373,16 @@ def contract(function):
 def spec_of(root, path):
     text = re.sub(r"(?s)\{-.*?-\}", "", read(root / path))
     return Spec(path, text, imported(text))
+
+
+def defining(whole, root):
+    """The file of specs that a definition is in, with its own definitions among the names that it knows."""
+    found = re.fullmatch(r"(Rattle·(\w+)\.specs\.(\w+))\.\w+", whole)
+    if not found:
+        raise Unreadable(f"{whole}, expected a definition of a crate's specs")
+    spec = spec_of(root, f"crates/{found[2]}/specs/{found[3]}.antt")
+    own = re.findall(r"^(?:abbrev |unfoldable )?pub (?:record |data )?([A-Za-z]\w*) ", spec.text, re.M)
+    return spec._replace(imports={**spec.imports, **{name: f"{found[1]}.{name}" for name in own}})
 
 
 def cases(spec, data, runner=None):
@@ -402,11 +451,13 @@ def run_by(case, buffer, right, replies):
         if len(right) == 2 and f"{right[0]} r" in WRITES:
             return "writes", right[1]
         raise Unreadable(f"{place_of(case)}`{shown(right)}`, expected `answerAnd (..)`, `severalAnd (..)` or `numberAnd (..)`")
-    if len(right) == 3 and right[:2] == ("lentPart", buffer):
-        return "part", right[2]
+    for relation, tells in SLICES.items():
+        if len(right) > 2 and right[:2] == (tells, buffer):
+            return relation, one(right[2:])
     if len(right) == 2 and right[0] in replies:
         return "reads", right[1]
-    raise Unreadable(f"{place_of(case)}the reply `{shown(right)}`, expected a case of Reply or `lentPart {buffer}`, with one term")
+    ways = " or ".join(f"`{tells} {buffer} ..`" for tells in SLICES.values())
+    raise Unreadable(f"{place_of(case)}the reply `{shown(right)}`, expected a case of Reply with one term, or {ways}")
 
 
 def gathering(case, name):
@@ -435,7 +486,8 @@ def demanded(call, function, case, replies):
 
 # ---- What is held ----
 
-FORMS = {"writes": "(r, now (buf .exit)) ≡ ..", "reads": "an equation that leaves buf as it is", "part": "PartOf r (buf .entry) (..)"}
+FORMS = {"writes": "(r, now (buf .exit)) ≡ ..", "reads": "an equation that leaves buf as it is",
+         **{relation: f"{relation} r (buf .entry) .. (..)" for relation in SLICES}}
 
 
 def differences(found, wanted, named_by):
@@ -451,8 +503,8 @@ def differences(found, wanted, named_by):
     return [f"contract has {here}, expected {there} ({named_by})" for here, there in origins if here != there]
 
 
-def row_differences(call, wanted):
-    definition = shown(unqualified(headed(wanted.term)))
+def row_differences(call, named_in):
+    definition = shown(unqualified(headed(named_in.term)))
     named = re.findall(r"`([^`]+)`", call.cell)
     return [] if named[:1] == [definition] else [f"{PAGE} names `{(named or ['nothing'])[0]}` first, expected `{definition}`"]
 
@@ -467,11 +519,15 @@ def wanted_of(call, function, stands, replies):
     return demanded(call, function, stands[0], replies), f"{stands[0].runner}, {stands[0].spec.file}"
 
 
-def call_problems(call, stands, replies):
+def call_problems(call, stands, replies, root):
     try:
         function = function_of(call)
         wanted, named_by = wanted_of(call, function, stands, replies)
-        return row_differences(call, wanted) + differences(contract(function), wanted, named_by)
+        handed = handed_back(function)
+        if handed is None:
+            return row_differences(call, wanted) + differences(contract(function), wanted, named_by)
+        found, expected = handed
+        return row_differences(call, found) + (unlike(found, expected) or differences(slice_of(function, found, root), wanted, named_by))
     except Unreadable as problem:
         return [str(problem)]
 
@@ -481,14 +537,6 @@ def promised(root):
     return {origin for path in PROMISES_ON_PAYLOADS for origin in spec_of(root, path).imports.values()}
 
 
-def handed_back(function):
-    """What the contract of a call that hands a slice back says, or None: (the definition, its contract as it has to be)."""
-    said = stated(function)
-    if not (isinstance(said, tuple) and isinstance(said[0], str) and said[0].endswith("HandedBack")):
-        return None
-    return Held("part", said, function.imports), (said[0], "r", ("buf", ".entry"), *(name for name in function.parameters if name != "buf"))
-
-
 def payload_problems(call, definitions_promised):
     try:
         function = function_of(call)
@@ -496,8 +544,8 @@ def payload_problems(call, definitions_promised):
         found = handed[0] if handed else contract(function)
         definition = headed(found.term)
         expected = handed[1] if handed else (definition, *(f"«{name}»" for name in function.parameters))
-        if found.term != expected:
-            return [f"contract has `{shown(found.term)}`, expected `{shown(expected)}`"]
+        if unlike(found, expected):
+            return unlike(found, expected)
         told = [] if whole_name(definition, found.imports) in definitions_promised else [f"no promise on payloads speaks of `{definition}`"]
         return row_differences(call, found) + told
     except Unreadable as problem:
@@ -562,7 +610,7 @@ def all_problems(root, calls, on_payloads):
             stands += cases(spec, data, runner)
     replies = {case.name for case in cases(spec, "Reply")}
     for call in calls:
-        for told in call_problems(call, [case for case in stands if call.path in case.calls], replies):
+        for told in call_problems(call, [case for case in stands if call.path in case.calls], replies, root):
             yield f"{call.path}, {call.file.relative_to(root)}: {told}"
     of_promises = promised(root)
     for call in on_payloads:

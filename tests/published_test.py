@@ -24,6 +24,7 @@ ADDS = "crates/making/src/adds.rt"
 ADDING = "crates/adding/src/lib.rt"
 MEMBERS = "crates/adding/src/members.rt"
 ASKING = "crates/asking/src/lib.rt"
+ASKED = "crates/asking/specs/Asking.antt"
 CURSOR = "crates/asking/src/cursor.rt"
 PAYING = "crates/paying/src/lib.rt"
 READS, WRITES = published.PROMISES_ON_PAYLOADS
@@ -48,7 +49,8 @@ FILES = {
 | `Cursor::first() -> Cursor` | asking, src/cursor.rt | `cursorAt`: index 0, offset 8 |
 | `Cursor::step(self, buf) -> Step` | the same | `stepOf` |
 | `asking::copy(buf, out: &mut [u8]) -> Answer` | asking, src/lib.rt | `copiedTo`, with the output |
-| `asking::part(buf, index) -> &[u8]` | the same | the part that `looked` names (`PartOf`) |
+| `asking::part(buf, index) -> &[u8]` | the same | `PartHandedBack`: the part that `looked` names |
+| `asking::line(buf, board) -> &[u8]` | the same | `LineHandedBack`: the line, or the board's text |
 | `asking::size(buf) -> u32` | the same | the length of `listing` |
 
 ### Calls on Handover payloads
@@ -65,7 +67,7 @@ use mathlib.Core.Bool.{Bool, true}
 use lib.ListN.{length}
 use Rattle.ultra_format.specs.Contexts.{Body}
 use Rattle.ultra_format.specs.Additions.{Addition, moduleOf, lineOf, lineFormed}
-use Rattle.asking.specs.Asking.{stepOf, copiedTo, looked, listing}
+use Rattle.asking.specs.Asking.{stepOf, copiedTo, looked, lineFound, listing}
 use Rattle.making.specs.Making.{begun, added, addedMembers}
 
 pub data Members : Type 0 where
@@ -95,6 +97,8 @@ pub data Question : Type 0 where
   copy : List ℕ → Question
   -- `asking::part`
   askPart : ℕ → Question
+  -- `asking::line`, with the board's text
+  askLine : List ℕ → Question
   -- `asking::size`
   askSize : Question
 
@@ -114,6 +118,10 @@ pub data Reply : Type 0 where
 abbrev pub lentPart : List ℕ → Part → Reply
 lentPart b p = lent p (bytesAt b (p .start) (p .length))
 
+abbrev pub lentLine : List ℕ → List ℕ → Found → Reply
+lentLine b board none = boardText board
+lentLine b board (found o a) = lentPart b (bodyPart o (a .body))
+
 abbrev pub answerAnd : Answer × List ℕ → Reply × List ℕ
 answerAnd r = (answer (r .0), r .1)
 
@@ -130,6 +138,7 @@ replyOf (step k) b = stepped (stepOf b k)
 replyOf (copy out) b =
     copied (copiedTo b out) -- over two lines
 replyOf (askPart i) b = lentPart b (looked b i .part)
+replyOf (askLine board) b = lentLine b board (lineFound b)
 replyOf askSize b = number (length (listing b))
 
 abbrev pub run : Call → List ℕ → Reply × List ℕ
@@ -247,12 +256,26 @@ pub fn add_line(buf: &mut [u8], text: &[u8]) -> Answer
     Answer::Done(8)
 }
 """,
+    ASKED: """use Rattle.lent_buffers.specs.LentParts.{PartOf}
+use Rattle.ultra_questions.specs.CommandLineQuestion.{LineOrBoard}
+
+unfoldable pub looked : List ℕ → ℕ → Place
+looked b i = placeAt b i
+
+unfoldable pub lineFound : List ℕ → Found
+lineFound b = searched b
+
+abbrev pub PartHandedBack : RefT (List ℕ) → RefT (List ℕ) → ℕ → Type 0
+PartHandedBack lent s i = PartOf lent s (looked (s .now) i .part)
+
+abbrev pub LineHandedBack : RefT (List ℕ) → RefT (List ℕ) → RefT (List ℕ) → Type 0
+LineHandedBack lent s board = LineOrBoard lent s board (lineFound (s .now))
+""",
     ASKING: """mod cursor;
 
 ghost use mathlib.Core.Path.{_≡_};
 ghost use lib.ListN.{length};
-ghost use Rattle.lent_buffers.specs.LentParts.{PartOf};
-ghost use Rattle.asking.specs.Asking.{copiedTo, looked, listing};
+ghost use Rattle.asking.specs.Asking.{copiedTo, listing, PartHandedBack, LineHandedBack};
 pub use cursor::Cursor;
 
 pub fn copy(buf: &[u8], out: &mut [u8]) -> Answer
@@ -262,9 +285,15 @@ pub fn copy(buf: &[u8], out: &mut [u8]) -> Answer
 }
 
 pub fn part(buf: &[u8], index: u64) -> &[u8]
-    ensures { λ r. ⌜ PartOf r (buf .entry) (looked (now (buf .entry)) index .part) ⌝ }
+    ensures { λ r. ⌜ PartHandedBack r (buf .entry) index ⌝ }
 {
     buf
+}
+
+pub fn line<'a>(buf: &'a [u8], board: &'a [u8]) -> &'a [u8]
+    ensures { λ r. ⌜ LineHandedBack r (buf .entry) (board .entry) ⌝ }
+{
+    board
 }
 
 pub fn size(buf: &[u8]) -> u32
@@ -393,11 +422,42 @@ class Contracts(Case):
                   f"expected `addedMembers buf true (moduleOf sort name)` (runWrite, {CALLS})")
 
     def test_a_part(self):
-        self.change(ASKING, "index .part)", "index)")
+        self.change(ASKED, "i .part)", "i)")
         self.told(f"asking::part, {ASKING}: contract has `looked buf index`, expected `looked buf index .part` (replyOf, {CALLS})")
-        self.change(ASKING, "PartOf r (buf .entry) (looked (now (buf .entry)) index .part)", "r ≡ looked (now (buf .entry)) index .part")
-        self.told(f"asking::part, {ASKING}: contract of the form `an equation that leaves buf as it is`, "
-                  f"expected `PartOf r (buf .entry) (..)` (replyOf, {CALLS})")
+        self.change(ASKED, "PartOf lent s (looked (s .now) i .part)", "LineOrBoard lent s (looked (s .now) i .part)")
+        self.told(f"asking::part, {ASKING}: contract of the form `LineOrBoard r (buf .entry) .. (..)`, "
+                  f"expected `PartOf r (buf .entry) .. (..)` (replyOf, {CALLS})")
+        self.change(ASKING, "PartHandedBack r (buf .entry) index", "r ≡ looked (now (buf .entry)) index .part")
+        self.told(f"asking::part, {ASKING}: docs/CALLS.md names `PartHandedBack` first, expected `looked`",
+                  f"asking::part, {ASKING}: contract of the form `an equation that leaves buf as it is`, "
+                  f"expected `PartOf r (buf .entry) .. (..)` (replyOf, {CALLS})")
+
+    def test_a_part_of_either(self):
+        self.change(ASKED, "LineOrBoard lent s board (lineFound", "LineOrBoard lent s board (lookedFor")
+        self.told(f"asking::line, {ASKING}: contract has `board (lookedFor buf)`, expected `board (lineFound buf)` (replyOf, {CALLS})")
+        self.change(ASKED, "LineOrBoard lent s board (lineFound (s .now))", "LineOrBoard lent board s (lineFound (s .now))")
+        other = "expected one equation, `PartOf lent s .. (..)` or `LineOrBoard lent s .. (..)`"
+        self.told(f"asking::line, {ASKING}: {ASKED}: `LineHandedBack`, {other}")
+        self.change(ASKED, "LineOrBoard lent s board (lineFound", "WholeOf lent board (lineFound")
+        self.told(f"asking::line, {ASKING}: {ASKED}: `LineHandedBack`, {other}")
+        self.change(ASKED, "LineHandedBack lent s board =", "LineHandedBack lent s =")
+        self.told(f"asking::line, {ASKING}: {ASKED}: `LineHandedBack`, {other}")
+        self.change(ASKED, "(lineFound (s .now))\n", "(lineFound (s .now))\nLineHandedBack lent s other = LineOrBoard lent s other (lineFound (s .now))\n")
+        self.told(f"asking::line, {ASKING}: {ASKED}: `LineHandedBack`, {other}")
+
+    def test_what_is_handed_back_of(self):
+        self.change(ASKING, "LineHandedBack r (buf .entry) (board .entry)", "LineHandedBack r (board .entry) (buf .entry)")
+        self.told(f"asking::line, {ASKING}: contract has `LineHandedBack r (board .entry) (buf .entry)`, "
+                  "expected `LineHandedBack r (buf .entry) (board .entry)`")
+        self.change(ASKING, "PartHandedBack r (buf .entry) index", "PartHandedBack r (buf .entry)")
+        self.told(f"asking::part, {ASKING}: contract has `PartHandedBack r (buf .entry)`, expected `PartHandedBack r (buf .entry) index`")
+
+    def test_another_relation(self):
+        self.change(ASKED, "Rattle.lent_buffers.specs.LentParts.{PartOf}", "lib.Weak.{PartOf}")
+        self.told(f"asking::part, {ASKING}: PartOf is lib.Weak.PartOf, expected Rattle.lent_buffers.specs.LentParts.PartOf")
+        self.change(ASKING, "Rattle.asking.specs.Asking.{copiedTo, listing, PartHandedBack, LineHandedBack}",
+                    "Rattle.asking.specs.Asking.{copiedTo, listing, PartHandedBack};\nghost use lib.Weak.{LineHandedBack}")
+        self.told(f"asking::line, {ASKING}: lib.Weak.LineHandedBack, expected a definition of a crate's specs")
 
 
 class Names(Case):
@@ -425,14 +485,14 @@ class Names(Case):
         self.change(ASKING, "(now (out .entry))", "(now (copiedTo .entry))")
         self.told(f"asking::copy, {ASKING}: contract has `copiedTo buf copiedTo`, where a parameter hides a definition")
         self.change(ASKING, "index: u64", "r: u64")
-        self.told(f"asking::part, {ASKING}: parameters buf, r, expected one `&mut` at most, and none named r, now or PartOf")
+        self.told(f"asking::part, {ASKING}: parameters buf, r, expected one `&mut` at most, and none named r or now")
         self.change(CURSOR, "self, buf: &[u8]", "self, buffer: &[u8]")
         self.told(f"Cursor::step, {CURSOR}: parameters self, buffer, expected buf")
 
     def test_the_heading(self):
         self.change(ASKING, "out: &mut [u8]", "out: &mut [u8], more: &mut [u8]")
         self.change(CALLS, "replyOf (copy out) b", "replyOf (copy out more) b")
-        self.told(f"asking::copy, {ASKING}: parameters buf, out, more, expected one `&mut` at most, and none named r, now or PartOf")
+        self.told(f"asking::copy, {ASKING}: parameters buf, out, more, expected one `&mut` at most, and none named r or now")
         self.change(ASKING, "index: u64", "(index, more): (u64, u64)")
         self.told(f"asking::part, {ASKING}: a parameter `buf: &[u8], (index, more): (u64, u64)`, expected a name and a type, or self")
         self.change(ASKING, "pub fn size(buf: &[u8]) -> u32\n", "pub fn size(buf: &[u8]) -> u32 // long\n")
@@ -523,19 +583,22 @@ class Demand2(Case):
     def test_what_hands_on(self):
         self.change(CALLS, "stepped (stepOf", "constant (stepOf")
         self.told(f"Cursor::step, {CURSOR}: `replyOf` of `step`, {CALLS}: the reply `constant (stepOf b k)`, "
-                  "expected a case of Reply or `lentPart b`, with one term")
+                  "expected a case of Reply with one term, or `lentPart b ..` or `lentLine b ..`")
         self.change(CALLS, "(answer (r .0), r .1)", "(answer (r .0), [])")
         self.told("demand_2: `answerAnd r = (answer (r .0), [])`, expected `answerAnd r = (answer (r .0), r .1)`")
+        self.change(CALLS, "lentLine b board none = boardText board", "lentLine b board none = boardText b")
+        rest = "lentLine b board (found o a) = lentPart b (bodyPart o (a .body))"
+        self.told(f"demand_2: `lentLine b board none = boardText b`, `{rest}`, expected `lentLine b board none = boardText board`, `{rest}`")
         self.change(CALLS, "(several (r .0), r .1)", "(several (r .0), [])")
         self.told("demand_2: `severalAnd r = (several (r .0), [])`, expected `severalAnd r = (several (r .0), r .1)`")
 
     def test_what_cannot_be_read(self):
         self.change(CALLS, "replyOf askSize b = number (length (listing b))", "replyOf askSize b = length (listing b)")
         self.told(f"asking::size, {ASKING}: `replyOf` of `askSize`, {CALLS}: the reply `length (listing b)`, "
-                  "expected a case of Reply or `lentPart b`, with one term")
+                  "expected a case of Reply with one term, or `lentPart b ..` or `lentLine b ..`")
         self.change(CALLS, "number (length (listing b))", "(number (length (listing b)), b)")
         self.told(f"asking::size, {ASKING}: `replyOf` of `askSize`, {CALLS}: the reply `number (length (listing b)), b`, "
-                  "expected a case of Reply or `lentPart b`, with one term")
+                  "expected a case of Reply with one term, or `lentPart b ..` or `lentLine b ..`")
         self.change(CALLS, "stepped (stepOf b k)", "[]")
         self.told(f"Cursor::step, {CURSOR}: `replyOf` of `step`, {CALLS}: `[` in `[]`, expected names and parentheses alone")
         self.change(CALLS, "answerAnd (begun b)", "(answer (begun b .0), b)")
@@ -622,7 +685,7 @@ class Main(Case):
         return status, said.getvalue()
 
     def test_status(self):
-        line = "published: 14 calls, each an equation with the definition that docs/CALLS.md and a promise name\n"
+        line = "published: 15 calls, each an equation with the definition that docs/CALLS.md and a promise name\n"
         self.assertEqual(self.run_main(), (0, line))
         self.change(CURSOR, "cursorAt 0 8", "cursorAt 1 8")
         self.assertEqual(self.run_main()[0], 1)

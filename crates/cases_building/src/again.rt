@@ -51,7 +51,7 @@ fn records_of(from: &[u8; 1024], to: &mut [u8; 1024]) {
 fn all_of(from: &[u8; 1024], to: &mut [u8; 1024]) -> Answer {
     ultra_building::begin(to);
     records_of(from, to);
-    ultra_building::add_command_line(to, ultra_questions::command_line(from));
+    ultra_building::add_command_line(to, ultra_questions::command_line(from, b""));
     map(from, to)
 }
 

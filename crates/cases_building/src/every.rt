@@ -97,7 +97,7 @@ fn line(buf: &[u8; 1024]) {
     print::number(b"command line at ", part.start as u64);
     print::number(b" length ", part.length as u64);
     print::words(b" \"");
-    print::words(ultra_questions::command_line(buf));
+    print::words(ultra_questions::command_line(buf, b""));
     print::words(b"\"\n");
 }
 

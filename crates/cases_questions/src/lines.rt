@@ -2,9 +2,10 @@
 use cases_contexts::build;
 use cases_text::print;
 
+// With an empty text of the board, as the recovery image asks.
 fn line(label: &[u8], buf: &[u8; 1024]) {
     let part = ultra_questions::command_line_part(buf);
-    let text = ultra_questions::command_line(buf);
+    let text = ultra_questions::command_line(buf, b"");
     print::words(label);
     print::form(
         b": part at # length #, bytes handed back # \"",
@@ -69,9 +70,47 @@ fn after_others() {
     line(b"line after others", &space);
 }
 
+// With a text of the board; every byte that is handed back is printed, zeros too.
+fn line_or<'a>(label: &[u8], given: &[u8], buf: &'a [u8; 1024], board: &'a [u8]) {
+    let part = ultra_questions::command_line_part(buf);
+    let text = ultra_questions::command_line(buf, board);
+    print::words(label);
+    print::words(given);
+    print::form(
+        b": part at # length #, # bytes handed back",
+        &[part.start as u64, part.length as u64, text.len() as u64],
+    );
+    print::bytes(text);
+    print::words(b"\n");
+}
+
+fn with_boards(label: &[u8], buf: &[u8; 1024]) {
+    line_or(label, b", board has a text", buf, b"tty");
+    line_or(label, b", board has an empty text", buf, b"");
+    line_or(label, b", board has zero bytes", buf, b"\0a\0");
+    line_or(label, b", board has no ASCII", buf, b"\x80\xff");
+    line_or(label, b", board has the line and its zero", buf, b"ro\0");
+}
+
+// A line, an empty one, none, and one in a refused buffer.
+fn boards() {
+    let mut space = [0u8; 1024];
+    context(&mut space);
+    build::put_bytes(&mut space, 440, b"ro");
+    with_boards(b"line", &space);
+    build::head(&mut space, 4);
+    with_boards(b"line of a refused context", &space);
+    build::head(&mut space, 2);
+    with_boards(b"no line", &space);
+    build::head(&mut space, 3);
+    build::put_byte(&mut space, 440, 0);
+    with_boards(b"empty line", &space);
+}
+
 pub fn all() {
     counts();
     full();
     junk_after();
     after_others();
+    boards();
 }

@@ -1,7 +1,7 @@
 -- The demand used where its premises end: calls of every kind, the widest arguments, two attributes, a head that another writer began.
 use Prim.Native.Nat.{ℕ, zero, suc, _+_, _%_, _<_, _≤_}
-use mathlib.Core.Path.{_≡_, refl, sym, ap, ap₂, _∙_, subst}
-use mathlib.Core.Bool.{Bool, true, false}
+use mathlib.Core.Path.{_≡_, refl, sym, ap, _∙_, subst}
+use mathlib.Core.Bool.{true}
 use mathlib.Core.Logic.{_⊎_, _⊎_.inl, _⊎_.inr, ⊎-elim}
 use mathlib.Core.List.{List, [], _∷_, _++_}
 use native.Mathlib.Omega.{arith}
@@ -38,7 +38,8 @@ use Rattle.ultra_building.specs.Building.{begun}
 use Rattle.refusals.specs.declared.Answer.the-variants.{Done}
 use Rattle.ultra_format.specs.declared.records.ModuleRecord.{ModuleRecord}
 use Rattle.ultra_modules.specs.Modules.{inTurn}
-use Rattle.demand_3.specs.Witness.{everyPlatformRecord, everyKernelRecord, everyEntries, everyLine}
+use Rattle.ultra_question_statements.specs.Witness.{everyLine}
+use Rattle.demand_3.specs.Witness.{everyPlatformRecord, everyKernelRecord, everyEntries}
 use Rattle.ultra_acceptance.specs.Steps.{StepsThrough}
 use Rattle.demand_2.specs.Calls.{Members, membersBody, Write.begin, Write.add, Write.addMembers, Write.addModules, Question, Question.read, Question.step}
 use Rattle.demand_2.specs.Calls.{Call, Call.write, Call.ask, Reply, Reply.number}
@@ -52,6 +53,7 @@ use Rattle.demand_2.proofs.Additions.{given-type}
 use Rattle.demand_2.proofs.Following.{length-given}
 use Rattle.demand_2.proofs.ReadingBack.{at-given}
 use Rattle.demand_2.proofs.Demand2.{demand-2}
+use Rattle.demand_2.proofs.Answered.{ModulesOf, list-now, answered, typed-one, typed-two}
 
 -- ---- arguments of their types
 pub some-bytes : (l : List ℕ) → every (λ (x : ℕ). ltb x 256) l ≡ true → Bytes l
@@ -105,31 +107,16 @@ every-list : Lists 640 × Lists 65536
 unfolding listAfterAll asks asksFromC modulesListed inTurn giving attributesGiven typesAfter appendCheck placeCheck placed occurs bodyGiven entriesGiven trimmed writtenSize givenCheck bodyCheck sizeSuits values kernelValues moduleValues framebufferValues bppSuits texts asciiText pathText every ranges ordered entriesOrdered total numbers numberAt numbersAt
 every-list = (refl, refl)
 
--- of other calls than several modules nothing is asked
-abbrev OtherThanModules : AnyCall → Type 0
-OtherThanModules k = (ms : List ModuleRecord) → inRattle k ≡ write (addModules ms) → ModulesTyped ms
-
-a-question : (q : QuestionFromC) → OtherThanModules (fromC (askFromC q))
+a-question : (q : QuestionFromC) → ModulesOf (fromC (askFromC q))
 a-question q ms e = absurd (let z : _≡_ {A = ℕ} 0 1 = cc in omega arith)
 
--- ---- the buffer, and what is answered of it
+-- ---- the buffer
 module _ (typed : AllTyped (adds sixAdditions)) (context : contextGiven sixAdditions ≡ sixTypes) (b : List ℕ) (room : ℕ) (r : roomOf b ≡ room) (l : Lists room) (long : 8 ≤ length b) where
-  begins : begun b .0 ≡ Done 8
-  begins = demand-2 .begins b long .0
-
-  list-now : listNow b everyCall ≡ sixAdditions
-  list-now = ap (λ (n : ℕ). listAfterAll n everyCall []) r ∙ l
-
   front : take 640 (bufferNow b everyCall) ≡ sixTypesBytes
   unfolding total
   front =
-      subst (λ (c : Context). take (used c) (bufferNow b everyCall) ≡ written c) (ap contextGiven list-now ∙ context) (demand-2 .follows b everyCall begins (every-typed typed) .bytes)
+      subst (λ (c : Context). take (used c) (bufferNow b everyCall) ≡ written c) (ap contextGiven (list-now b room r long everyCall sixAdditions l) ∙ context) (demand-2 .follows b everyCall (demand-2 .begins b long .0) (every-typed typed) .bytes)
       ∙ six-types-written
-
-  replied-now : (k : AnyCall) → OtherThanModules k → (Undetermined room (contextGiven sixAdditions) (inRattle k) → ⊥) → runAny k (bufferNow b everyCall) .0 ≡ anyReply room k sixAdditions
-  replied-now k y n =
-      let q : Undetermined (roomOf b) (contextGiven (listNow b everyCall)) (inRattle k) ≡ Undetermined room (contextGiven sixAdditions) (inRattle k) = λ i. Undetermined (r i) (contextGiven (list-now i)) (inRattle k) in
-      demand-2 .answers b everyCall k begins (every-typed typed) y (λ u. n (subst (λ (t : Type 0). t) q u)) ∙ (λ i. anyReply (r i) k (list-now i))
 
 -- ---- calls whose answer the list determines
 same-cursor : (i o : ℕ) (j : Cursor) → ask (step (cursorAt i o)) ≡ ask (step j) → (j .index ≡ i) × (j .offset ≡ o)
@@ -162,71 +149,57 @@ every-kind w =
           let n = demand-2 .sameLength b everyCall (demand-2 .begins b (omega arith) .0) (every-typed (w .typed)) in
           sym (take-all 640 (bufferNow b everyCall) (omega arith)) ∙ front (w .typed) (w .list) b 640 (omega arith) (every-list .0) (omega arith);
       long = λ b e. front (w .typed) (w .list) b 65536 (omega arith) (every-list .1) (omega arith);
-      read = λ b e. least b e (fromC (askFromC ultraRead)) (a-question ultraRead) (no-step 640) ∙ replied .0;
-      last = λ b e. least b e (fromC (askFromC (ultraStep 5 608))) (a-question (ultraStep 5 608)) (determined 640 5 608 (λ h i j k. omega arith)) ∙ replied .2;
-      inside = λ b e. least b e (fromC (askFromC (ultraStep 0 16))) (a-question (ultraStep 0 16)) (determined 640 0 16 (λ h i j k. omega arith)) ∙ replied .1;
-      end = λ b e. greatest b e (fromC (askFromC (ultraStep 6 640))) (a-question (ultraStep 6 640)) (determined 65536 6 640 (λ h i j k. omega arith)) ∙ replied .3;
-      pastRoom = λ b e. least b e (fromC (askFromC (ultraStep 0 640))) (a-question (ultraStep 0 640)) (determined 640 0 640 (λ h i j k. omega arith)) ∙ replied .4;
-      crooked = λ b e. greatest b e (fromC (askFromC (ultraStep 0 644))) (a-question (ultraStep 0 644)) (determined 65536 0 644 (λ h i j k. omega arith)) ∙ replied .5;
+      read = λ b e. least b e ultraRead _ (no-step 640) (replied .0);
+      last = λ b e. least b e (ultraStep 5 608) _ (determined 640 5 608 (λ h i j k. omega arith)) (replied .2);
+      inside = λ b e. least b e (ultraStep 0 16) _ (determined 640 0 16 (λ h i j k. omega arith)) (replied .1);
+      end = λ b e. greatest b e (ultraStep 6 640) _ (determined 65536 6 640 (λ h i j k. omega arith)) (replied .3);
+      pastRoom = λ b e. least b e (ultraStep 0 640) _ (determined 640 0 640 (λ h i j k. omega arith)) (replied .4);
+      crooked = λ b e. greatest b e (ultraStep 0 644) _ (determined 65536 0 644 (λ h i j k. omega arith)) (replied .5);
     }
   where
-    least : (b : List ℕ) → length b ≡ 640 → (k : AnyCall) → OtherThanModules k → (Undetermined 640 (contextGiven sixAdditions) (inRattle k) → ⊥) → runAny k (bufferNow b everyCall) .0 ≡ anyReply 640 k sixAdditions
-    least b e = replied-now (w .typed) (w .list) b 640 (omega arith) (every-list .0) (omega arith)
+    least : (b : List ℕ) → length b ≡ 640 → (q : QuestionFromC) (n : ℕ) → (Undetermined 640 (contextGiven sixAdditions) (inRattle (fromC (askFromC q))) → ⊥) → Replied 640 q n
+        → runAny (fromC (askFromC q)) (bufferNow b everyCall) .0 ≡ number n
+    least b e q n u a = answered b 640 (omega arith) (omega arith) everyCall sixAdditions (every-list .0) (every-typed (w .typed)) (fromC (askFromC q)) (a-question q) u (number n) a
 
-    greatest : (b : List ℕ) → length b ≡ 65537 → (k : AnyCall) → OtherThanModules k → (Undetermined 65536 (contextGiven sixAdditions) (inRattle k) → ⊥) → runAny k (bufferNow b everyCall) .0 ≡ anyReply 65536 k sixAdditions
-    greatest b e = replied-now (w .typed) (w .list) b 65536 (omega arith) (every-list .1) (omega arith)
+    greatest : (b : List ℕ) → length b ≡ 65537 → (q : QuestionFromC) (n : ℕ) → (Undetermined 65536 (contextGiven sixAdditions) (inRattle (fromC (askFromC q))) → ⊥) → Replied 65536 q n
+        → runAny (fromC (askFromC q)) (bufferNow b everyCall) .0 ≡ number n
+    greatest b e q n u a = answered b 65536 (omega arith) (omega arith) everyCall sixAdditions (every-list .1) (every-typed (w .typed)) (fromC (askFromC q)) (a-question q) u (number n) a
 
 -- ---- two attributes
+two-listed : listAfterAll 432 (adds two) [] ≡ two
+unfolding listAfterAll adds attributesGiven typesAfter appendCheck placeCheck placed occurs bodyGiven entriesGiven trimmed writtenSize givenCheck bodyCheck sizeSuits values kernelValues texts asciiText pathText every ranges ordered total
+two-listed = refl
+
 module _ (w : AllTyped (adds sixAdditions)) (b : List ℕ) (e : length b ≡ 432) where
-  two-typed : AllTyped (adds two)
-  unfolding AllTyped adds
-  two-typed = (w .0, (w .1 .0, tt))
-
-  two-listed : listAfterAll 432 (adds two) [] ≡ two
-  unfolding listAfterAll adds attributesGiven typesAfter appendCheck placeCheck placed occurs bodyGiven entriesGiven trimmed writtenSize givenCheck bodyCheck sizeSuits values kernelValues texts asciiText pathText every ranges ordered total
-  two-listed = refl
-
-  two-now : listNow b (adds two) ≡ two
-  two-now = let r : roomOf b ≡ 432 = omega arith in ap (λ (n : ℕ). listAfterAll n (adds two) []) r ∙ two-listed
-
   begun-two : begun b .0 ≡ Done 8
   begun-two = demand-2 .begins b (omega arith) .0
 
+  two-now : listNow b (adds two) ≡ two
+  two-now = list-now b 432 (omega arith) (omega arith) (adds two) two two-listed
+
   two-back : ReadsBack (bufferNow b (adds two)) two
-  two-back = subst (ReadsBack (bufferNow b (adds two))) two-now (demand-2 .readsBack b (adds two) begun-two two-typed (rw two-now (omega arith)))
+  two-back = subst (ReadsBack (bufferNow b (adds two))) two-now (demand-2 .readsBack b (adds two) begun-two (typed-two w) (rw two-now (omega arith)))
 
   two-through : StepsThrough (bufferNow b (adds two)) (contextGiven two)
   two-through =
-      subst (λ (gs : List Addition). StepsThrough (bufferNow b (adds two)) (contextGiven gs)) two-now (demand-2 .steps b (adds two) begun-two two-typed (rw two-now (omega arith)))
+      subst (λ (gs : List Addition). StepsThrough (bufferNow b (adds two)) (contextGiven gs)) two-now (demand-2 .steps b (adds two) begun-two (typed-two w) (rw two-now (omega arith)))
 
 -- one attribute
-module _ (w : AllTyped (adds sixAdditions)) (b : List ℕ) (e : length b ≡ 104) where
-  one-typed : AllTyped (adds one)
-  unfolding AllTyped adds
-  one-typed = (w .0, tt)
+pub one-listed : listAfterAll 104 (adds one) [] ≡ one
+unfolding listAfterAll adds attributesGiven typesAfter appendCheck placeCheck placed occurs bodyGiven trimmed writtenSize givenCheck bodyCheck sizeSuits values texts asciiText every ranges ordered total
+one-listed = refl
 
-  one-listed : listAfterAll 104 (adds one) [] ≡ one
-  unfolding listAfterAll adds attributesGiven typesAfter appendCheck placeCheck placed occurs bodyGiven trimmed writtenSize givenCheck bodyCheck sizeSuits values texts asciiText every ranges ordered total
-  one-listed = refl
+one-replied : anyReply 104 (fromC (askFromC (ultraStep 0 96))) one ≡ number 17179869184
+unfolding replyTo repliesIn attributesGiven
+one-replied = refl
 
-  one-now : listNow b (adds one) ≡ one
-  one-now = let r : roomOf b ≡ 104 = omega arith in ap (λ (n : ℕ). listAfterAll n (adds one) []) r ∙ one-listed
+one-counted : count (contextGiven one) ≡ 1
+unfolding attributesGiven
+one-counted = refl
 
-  one-replied : anyReply 104 (fromC (askFromC (ultraStep 0 96))) one ≡ number 17179869184
-  unfolding replyTo repliesIn attributesGiven
-  one-replied = refl
-
-  one-counted : count (contextGiven one) ≡ 1
-  unfolding attributesGiven
-  one-counted = refl
-
-  one-is-not : runAny (fromC (askFromC (ultraStep 0 96))) (bufferNow b (adds one)) .0 ≡ number 17179869184
-  one-is-not =
-      let r : roomOf b ≡ 104 = omega arith in
-      let n : count (contextGiven (listNow b (adds one))) ≡ 1 = ap (λ (gs : List Addition). count (contextGiven gs)) one-now ∙ one-counted in
-      demand-2 .answers b (adds one) (fromC (askFromC (ultraStep 0 96))) (demand-2 .begins b (omega arith) .0) one-typed (a-question (ultraStep 0 96)) (λ u. omega (arith, n, u .2))
-      ∙ (λ i. anyReply (r i) (fromC (askFromC (ultraStep 0 96))) (one-now i))
-      ∙ one-replied
+one-is-not : AllTyped (adds sixAdditions) → (b : List ℕ) → length b ≡ 104 → runAny (fromC (askFromC (ultraStep 0 96))) (bufferNow b (adds one)) .0 ≡ number 17179869184
+one-is-not w b e =
+    answered b 104 (omega arith) (omega arith) (adds one) one one-listed (typed-one w) (fromC (askFromC (ultraStep 0 96))) (a-question (ultraStep 0 96)) (λ u. omega (arith, one-counted, u .2)) _ one-replied
 
 pub two-are-enough : AllTyped (adds sixAdditions) → TwoAreEnough
 two-are-enough w = record { oneIsNot = one-is-not w; back = two-back w; through = two-through w }

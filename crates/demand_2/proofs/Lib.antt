@@ -8,7 +8,9 @@ pub mod Replies
 pub mod ReadingBack
 pub mod Rebuilding
 pub mod Demand2
+pub mod Answered
 pub mod EveryCall
 pub mod SeveralModules
+pub mod BoardTexts
 pub mod Writes
 pub mod Witness

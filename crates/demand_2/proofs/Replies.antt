@@ -35,13 +35,16 @@ use Rattle.ultra_reading.proofs.ReadingLaws.{accepted-head, head-refuses}
 use Rattle.ultra_acceptance.specs.Acceptance.{HoldsContext}
 use Rattle.ultra_acceptance.proofs.Walked.{Accepted, accepted}
 use Rattle.ultra_acceptance.proofs.Acceptance.{complete, rehoused, held-reading}
+use Rattle.lent_buffers.specs.declared.Part.{Part}
 use Rattle.lent_buffers.specs.LentParts.{noPart}
+use Rattle.ultra_locating.specs.Searching.{Found, Found.none, Found.found}
+use Rattle.ultra_questions.specs.Parts.{bodyPart}
 use Rattle.ultra_question_statements.specs.ByContext.{ByContext}
 use Rattle.ultra_question_statements.specs.QuestionRefusals.{PassesOn}
 use Rattle.ultra_questions.specs.declared.attributes.AttributeAnswer.{AttributeAnswer}
 use Rattle.ultra_questions.specs.AttributeQuestion.{attributeAnswer}
 use Rattle.ultra_map_question.specs.MapQuestion.{mapCopiedBytes, overBytes}
-use Rattle.ultra_questions.specs.CommandLineQuestion.{commandLinePart}
+use Rattle.ultra_questions.specs.CommandLineQuestion.{lineIn, foundPart, foundText, lineFound}
 use Rattle.listing_format.specs.Listing.{contextLines, refusedLines, linesOf, textListed, listed}
 use Rattle.ultra_question_statements.proofs.ByContext.{questions-by-context}
 use Rattle.ultra_question_statements.proofs.QuestionRefusals.{refusals-pass-on}
@@ -50,12 +53,12 @@ use Rattle.demand_3.proofs.Demand3.{demand-3}
 use Rattle.demand_2.specs.Calls.{membersFormed, membersBody, Write.begin, Write.add, Write.addMembers, Write.addModules}
 use Rattle.demand_2.specs.Calls.{Question, Question.read, Question.step, Question.askAttribute, Question.askStart, Question.askPart, Question.copyMap, Question.copyMapBytes}
 use Rattle.demand_2.specs.Calls.{Question.askLine, Question.locateLine, Question.askModule, Question.list, Question.askListingLength}
-use Rattle.demand_2.specs.Calls.{Call, Call.write, Call.ask, Reply, lentPart, replyOf, runWrite, run}
+use Rattle.demand_2.specs.Calls.{Call, Call.write, Call.ask, Reply, lentPart, lentLine, replyOf, runWrite, run}
 use Rattle.demand_2.specs.Calls.{Reply.answer, Reply.several, Reply.reading, Reply.stepped, Reply.attribute, Reply.located, Reply.lent, Reply.copied, Reply.number}
 use Rattle.demand_2.specs.CallsFromC.{replyCrossed, AnyCall, inRattle, runAny}
 use Rattle.demand_2.specs.CallsFromC.{AnyCall.fromRattle, AnyCall.fromC}
 use Rattle.demand_2.specs.Arguments.{ModulesTyped}
-use Rattle.demand_2.specs.Model.{contextGiven, membersRefusal, refusalOf, giving, tooFew, stepWithin, stepIn, partIn, repliesIn, replyTo, anyReply, attributesGiven}
+use Rattle.demand_2.specs.Model.{contextGiven, membersRefusal, refusalOf, giving, tooFew, stepWithin, stepIn, partIn, lineReply, repliesIn, replyTo, anyReply, attributesGiven}
 use Rattle.demand_2.specs.Demand2.{Follows, Undetermined}
 use Rattle.demand_2.proofs.Following.{Keeps, says-given, begun-is, long, added-is, add-reply, modules-follow, crosses}
 use Rattle.demand_2.proofs.GivenMembers.{members-size}
@@ -139,9 +142,15 @@ module _ (d : List ℕ) (gs : List Addition) (f : Follows d gs) where
   unfolding bytesAt
   no-part l i = rw (unasked l .attributes i)
 
-  no-line : count now < 2 → lentPart d (commandLinePart d) ≡ lent noPart []
-  unfolding bytesAt
-  no-line l = rw (unasked l .line)
+  -- the line that is found has its text
+  line-given : (board : List ℕ) (f : Found) → bytesAt d (foundPart f .start) (foundPart f .length) ≡ foundText [] f → lentLine d board f ≡ lineReply board f
+  line-given board none e = refl
+  line-given board (found o a) e = ap (lent (bodyPart o (a .body))) e
+
+  line-enough : 2 ≤ count now → (board : List ℕ) → lentLine d board (lineFound d) ≡ lineReply board (lineIn now)
+  line-enough l board =
+      let h = asked l in
+      ap (lentLine d board) (h .found) ∙ line-given board (lineIn now) (ap (λ (p : Part). bytesAt d (p .start) (p .length)) (sym (h .line)) ∙ h .text)
 
   reading-few : count now < 2 → readingOf d ≡ withVersion (versionOf d) (Refused tooFew)
   unfolding readingOf
@@ -213,7 +222,7 @@ module _ (d : List ℕ) (gs : List Addition) (f : Follows d gs) where
   by-context (askPart i) n = (λ l. part-given l i, λ l. no-part l i)
   by-context (copyMap out) n = (λ l. ap copied (asked l .maps out), λ l. ap copied (unasked l .maps out))
   by-context (copyMapBytes out) n = (λ l. ap (copiedOver out) (asked l .maps (numbersIn out)), λ l. ap (copiedOver out) (unasked l .maps (numbersIn out)))
-  by-context askLine n = (λ l. ap₂ lent (asked l .line) (asked l .text), no-line)
+  by-context (askLine board) n = (λ l. line-enough l board, λ l. ap (lentLine d board) (unasked l .found))
   by-context locateLine n = (λ l. ap located (asked l .line), λ l. ap located (unasked l .line))
   by-context (askModule a) n = (λ l. ap answer (asked l .modules a), λ l. ap answer (unasked l .modules a))
   by-context (list out) n = (λ l. ap (linesListed out) (lines-enough l), λ l. ap (linesListed out) (lines-few l))

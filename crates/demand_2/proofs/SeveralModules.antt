@@ -18,17 +18,17 @@ use Rattle.ultra_format.specs.Examples.{zeros}
 use Rattle.ultra_format.specs.Additions.{Addition, Addition.addModule, entriesGiven, bodyGiven, givenCheck}
 use Rattle.ultra_format.specs.declared.records.ModuleRecord.{ModuleRecord}
 use Rattle.ultra_appending.specs.Appending.{appendCheck}
-use Rattle.ultra_building.specs.Building.{begun}
 use Rattle.ultra_modules.specs.Modules.{answerAndCount, inTurn, modulesAdded}
 use Rattle.ultra_modules.specs.declared.ModulesAdded.{ModulesAdded}
 use Rattle.demand_2.specs.Calls.{Write.addModules, Call.write, Reply.several, runWrite}
 use Rattle.demand_2.specs.CallsFromC.{AnyCall, inRattle, runAny, after}
 use Rattle.demand_2.specs.Arguments.{ModuleTyped, ModulesTyped, AllTyped}
-use Rattle.demand_2.specs.Model.{attributesGiven, contextGiven, typesAfter, modulesListed, listAfterAll, replyTo, anyReply}
-use Rattle.demand_2.specs.Demand2.{Undetermined, ReadsBack, adds, modulesGiven, bufferNow, listNow}
+use Rattle.demand_2.specs.Model.{attributesGiven, contextGiven, typesAfter, modulesListed, listAfterAll, replyTo}
+use Rattle.demand_2.specs.Demand2.{Undetermined, ReadsBack, adds, modulesGiven, bufferNow}
 use Rattle.demand_2.specs.Witness.{sixAdditions, two, aModule, threeModules, fourModules, addingModules, SeveralModules}
 use Rattle.demand_2.proofs.EveryCall.{some-bytes, joined}
 use Rattle.demand_2.proofs.Demand2.{demand-2}
+use Rattle.demand_2.proofs.Answered.{list-now, answered, typed-two}
 
 -- ---- arguments
 typed-module : (kind : ℕ) → kind < 2 ^ 32 → ModuleTyped (aModule kind)
@@ -67,30 +67,20 @@ typed-as ms y l e = let q : ms ≡ l = cc in subst ModulesTyped q y
 
 -- ---- the buffer
 module _ (w : AllTyped (adds sixAdditions)) (b : List ℕ) (room : ℕ) (e : roomOf b ≡ room) (long : 8 ≤ length b) where
-  begins : begun b .0 ≡ Done 8
-  begins = demand-2 .begins b long .0
-
-  typed-two : AllTyped (adds two)
-  unfolding AllTyped adds
-  typed-two = (w .0, (w .1 .0, tt))
-
-  answered : (ms : List ModuleRecord) (r : ModulesAdded) → ModulesTyped ms → Listed room ms r
+  modules-answered : (ms : List ModuleRecord) (r : ModulesAdded) → ModulesTyped ms → Listed room ms r
       → runAny (addingModules ms) (bufferNow b (adds two)) .0 ≡ several r
   unfolding replyTo
-  answered ms r y l =
-      let q : listNow b (adds two) ≡ two = ap (λ (n : ℕ). listAfterAll n (adds two) []) e ∙ l .0 in
-      demand-2 .answers b (adds two) (addingModules ms) begins typed-two (typed-as ms y) (no-step (roomOf b) (contextGiven (listNow b (adds two))) ms)
-      ∙ (λ i. anyReply (e i) (addingModules ms) (q i))
-      ∙ ap several (l .1)
+  modules-answered ms r y l =
+      answered b room e long (adds two) two (l .0) (typed-two w) (addingModules ms) (typed-as ms y) (no-step room (contextGiven two) ms) (several r) (ap several (l .1))
 
   typed-calls : AllTyped calls
   unfolding AllTyped
-  typed-calls = joined (adds two) (addingModules fourModules ∷ []) typed-two (typed-four, tt)
+  typed-calls = joined (adds two) (addingModules fourModules ∷ []) (typed-two w) (typed-four, tt)
 
   read-back : listAfterAll room calls [] ≡ withTwo → ReadsBack (bufferNow b calls) withTwo
   read-back l =
-      let q : listNow b calls ≡ withTwo = ap (λ (n : ℕ). listAfterAll n calls []) e ∙ l in
-      subst (ReadsBack (bufferNow b calls)) q (demand-2 .readsBack b calls begins typed-calls (rw q (omega arith)))
+      let q = list-now b room e long calls withTwo l in
+      subst (ReadsBack (bufferNow b calls)) q (demand-2 .readsBack b calls (demand-2 .begins b long .0) typed-calls (rw q (omega arith)))
 
 unchanged : (b : List ℕ) (ms : List ModuleRecord) → modulesAdded b ms .0 .added ≡ 0 → runAny (addingModules ms) b .1 ≡ b
 unfolding modulesGiven adds after runWrite
@@ -107,9 +97,9 @@ no-modules b = refl
 pub several-modules : AllTyped (adds sixAdditions) → SeveralModules
 several-modules w =
     record {
-      all = λ b e. answered w b 720 (omega arith) (omega arith) threeModules _ typed-three (listed .0);
-      noRoom = λ b e. answered w b 719 (omega arith) (omega arith) threeModules _ typed-three (listed .1);
-      third = λ b e. answered w b 720 (omega arith) (omega arith) fourModules _ typed-four (listed .2);
+      all = λ b e. modules-answered w b 720 (omega arith) (omega arith) threeModules _ typed-three (listed .0);
+      noRoom = λ b e. modules-answered w b 719 (omega arith) (omega arith) threeModules _ typed-three (listed .1);
+      third = λ b e. modules-answered w b 720 (omega arith) (omega arith) fourModules _ typed-four (listed .2);
       back = λ b e. read-back w b 720 (omega arith) (omega arith) listed-back;
       unchanged = unchanged;
       none = no-modules;

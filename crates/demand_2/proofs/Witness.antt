@@ -22,6 +22,7 @@ use Rattle.demand_2.proofs.ReadingBack.{record-at}
 use Rattle.demand_2.proofs.Rebuilding.{context-back, typed-back, rebuilt-list}
 use Rattle.demand_2.proofs.Demand2.{demand-2}
 use Rattle.demand_2.proofs.SeveralModules.{several-modules}
+use Rattle.demand_2.proofs.BoardTexts.{board-texts}
 use Rattle.demand_2.proofs.Writes.{writes-answered}
 use Rattle.demand_2.proofs.EveryCall.{every-kind, widest, from-c-and-members, any-arguments, built-plain, two-are-enough, head, other, other-kept}
 
@@ -89,6 +90,7 @@ witnessed =
       enough = two-are-enough (six .typed);
       writes = writes-answered (six .typed);
       modules = several-modules (six .typed);
+      boards = board-texts (six .typed);
       head = head;
       headless = λ b e. demand-2 .beginsNot b (omega arith);
       other = other (six .typed);

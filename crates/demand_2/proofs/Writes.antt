@@ -1,6 +1,6 @@
 -- What is answered of calls that write, from the demand; the model's answers are found by computation.
 use Prim.Native.Nat.{ℕ, _≤_}
-use mathlib.Core.Path.{_≡_, refl, ap, _∙_}
+use mathlib.Core.Path.{_≡_, refl}
 use mathlib.Core.Bool.{false}
 use mathlib.Core.List.{List, []}
 use native.Mathlib.Omega.{arith}
@@ -29,6 +29,8 @@ use Rattle.demand_2.specs.Model.{attributesGiven, typesAfter, giving, li
 use Rattle.demand_2.specs.Demand2.{adds, bufferNow, listNow}
 use Rattle.demand_2.specs.Witness.{sixAdditions, one, WritesAnswered}
 use Rattle.demand_2.proofs.Demand2.{demand-2}
+use Rattle.demand_2.proofs.Answered.{answered, typed-one}
+use Rattle.demand_2.proofs.EveryCall.{one-listed}
 
 -- no module is given
 abbrev NoModules : Write → Type 0
@@ -60,19 +62,11 @@ every-write : (b : List ℕ) (ks : List AnyCall) (w : Write) → begun b .0 ≡ 
 every-write b ks w e y n = demand-2 .answers b ks (fromRattle (write w)) e y (other w n) (λ u. no-step w (u .0) (u .1))
 
 -- by the list gs that the calls ks leave in a room
-answered : (b : List ℕ) (room : ℕ) → roomOf b ≡ room → 8 ≤ length b → (ks : List AnyCall) (gs : List Addition) → AllTyped ks → listAfterAll room ks [] ≡ gs
+write-answered : (b : List ℕ) (room : ℕ) → roomOf b ≡ room → 8 ≤ length b → (ks : List AnyCall) (gs : List Addition) → AllTyped ks → listAfterAll room ks [] ≡ gs
     → (w : Write) → NoModules w → (a : Answer) → replyTo room (write w) gs ≡ answer a → runAny (fromRattle (write w)) (bufferNow b ks) .0 ≡ answer a
-answered b room r long ks gs y l w n a e =
-    let q : listNow b ks ≡ gs = ap (λ (m : ℕ). listAfterAll m ks []) r ∙ l in
-    every-write b ks w (demand-2 .begins b long .0) y n
-    ∙ (λ i. replyTo (r i) (write w) (q i))
-    ∙ e
+write-answered b room r long ks gs y l w n a e = answered b room r long ks gs l y (fromRattle (write w)) (other w n) (λ u. no-step w (u .0) (u .1)) (answer a) e
 
 -- by computation
-listed : listAfterAll 104 (adds one) [] ≡ one
-unfolding listAfterAll adds attributesGiven typesAfter appendCheck placeCheck placed occurs bodyGiven trimmed writtenSize givenCheck bodyCheck sizeSuits values texts asciiText every ranges ordered total
-listed = refl
-
 none-listed : (room : ℕ) → listAfterAll room [] [] ≡ []
 unfolding listAfterAll
 none-listed room = refl
@@ -93,16 +87,12 @@ no-calls : AllTyped []
 unfolding AllTyped
 no-calls = tt
 
-one-typed : AllTyped (adds sixAdditions) → AllTyped (adds one)
-unfolding AllTyped adds
-one-typed w = (w .0, tt)
-
 pub writes-answered : AllTyped (adds sixAdditions) → WritesAnswered
 writes-answered w =
     record {
       every = every-write;
-      begun = λ b e. answered b 104 (omega arith) (omega arith) (adds one) one (one-typed w) listed begin begin-none _ begin-reply;
-      added = λ b e. answered b 96 (omega arith) (omega arith) [] [] no-calls (none-listed 96) aPlatform (add-none _) _ (platform-replies .0);
-      noRoom = λ b e. answered b 95 (omega arith) (omega arith) [] [] no-calls (none-listed 95) aPlatform (add-none _) _ (platform-replies .1);
-      members = λ b e. answered b 96 (omega arith) (omega arith) [] [] no-calls (none-listed 96) incomplete incomplete-none _ incomplete-reply;
+      begun = λ b e. write-answered b 104 (omega arith) (omega arith) (adds one) one (typed-one w) one-listed begin begin-none _ begin-reply;
+      added = λ b e. write-answered b 96 (omega arith) (omega arith) [] [] no-calls (none-listed 96) aPlatform (add-none _) _ (platform-replies .0);
+      noRoom = λ b e. write-answered b 95 (omega arith) (omega arith) [] [] no-calls (none-listed 95) aPlatform (add-none _) _ (platform-replies .1);
+      members = λ b e. write-answered b 96 (omega arith) (omega arith) [] [] no-calls (none-listed 96) incomplete incomplete-none _ incomplete-reply;
     }

@@ -17,9 +17,11 @@ use Rattle.ultra_stepping.specs.declared.cursor.Cursor.{Cursor}
 use Rattle.ultra_stepping.specs.declared.cursor.Step.{Step}
 use Rattle.lent_buffers.specs.declared.Part.{Part}
 use Rattle.ultra_questions.specs.declared.attributes.AttributeAnswer.{AttributeAnswer}
+use Rattle.ultra_locating.specs.Searching.{Found, Found.none, Found.found}
+use Rattle.ultra_questions.specs.Parts.{bodyPart}
 use Rattle.ultra_questions.specs.AttributeQuestion.{attributeStart, attributeAnswer}
 use Rattle.ultra_map_question.specs.MapQuestion.{mapCopied, mapCopiedBytes}
-use Rattle.ultra_questions.specs.CommandLineQuestion.{commandLinePart}
+use Rattle.ultra_questions.specs.CommandLineQuestion.{lineFound, commandLinePart}
 use Rattle.ultra_questions.specs.ModuleQuestion.{moduleHolding}
 use Rattle.ultra_adding.specs.Adding.{added, addedMembers}
 use Rattle.ultra_building.specs.Building.{begun}
@@ -77,8 +79,8 @@ pub data Question : Type 0 where
   copyMap : List ℕ → Question
   -- `ultra_questions::copy_map_bytes`
   copyMapBytes : List ℕ → Question
-  -- `ultra_questions::command_line`
-  askLine : Question
+  -- `ultra_questions::command_line`, with the board's text
+  askLine : List ℕ → Question
   -- `ultra_questions::command_line_part`
   locateLine : Question
   -- `ultra_questions::module_holding`
@@ -92,7 +94,8 @@ pub data Call : Type 0 where
   write : Write → Call
   ask : Question → Call
 
--- what a call gives back. A part of the buffer is told by where it is and by its bytes; `copied` has the lent output too.
+-- what a call gives back. A part of the buffer is told by where it is and by its bytes, the board's text by its bytes; `copied` has the
+-- lent output too.
 pub data Reply : Type 0 where
   answer : Answer → Reply
   -- of several modules, with how many were added
@@ -102,6 +105,7 @@ pub data Reply : Type 0 where
   attribute : AttributeAnswer → Reply
   located : Part → Reply
   lent : Part → List ℕ → Reply
+  boardText : List ℕ → Reply
   copied : Answer × List ℕ → Reply
   number : ℕ → Reply
   -- toward C, with the lent output
@@ -110,6 +114,11 @@ pub data Reply : Type 0 where
 -- the part of the buffer
 abbrev pub lentPart : List ℕ → Part → Reply
 lentPart b p = lent p (bytesAt b (p .start) (p .length))
+
+-- the line's part of the buffer, or the board's text
+abbrev pub lentLine : List ℕ → List ℕ → Found → Reply
+lentLine b board none = boardText board
+lentLine b board (found o a) = lentPart b (bodyPart o (a .body))
 
 abbrev pub answerAnd : Answer × List ℕ → Reply × List ℕ
 answerAnd r = (answer (r .0), r .1)
@@ -133,7 +142,7 @@ replyOf (askStart i) b = answer (attributeStart b i)
 replyOf (askPart i) b = lentPart b (attributeAnswer b i .part)
 replyOf (copyMap out) b = copied (mapCopied b out)
 replyOf (copyMapBytes out) b = copied (mapCopiedBytes b out)
-replyOf askLine b = lentPart b (commandLinePart b)
+replyOf (askLine board) b = lentLine b board (lineFound b)
 replyOf locateLine b = located (commandLinePart b)
 replyOf (askModule a) b = answer (moduleHolding b a)
 replyOf (list out) b = copied (listed b out)

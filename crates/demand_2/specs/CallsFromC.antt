@@ -19,7 +19,7 @@ use Rattle.demand_2.specs.Calls.{Members.platformMembers, Members.kernel
 use Rattle.demand_2.specs.Calls.{Write, Write.begin, Write.add, Write.addMembers}
 use Rattle.demand_2.specs.Calls.{Question, Question.read, Question.step, Question.askStart, Question.copyMapBytes, Question.locateLine, Question.askModule}
 use Rattle.demand_2.specs.Calls.{Call, run, Call.write, Call.ask}
-use Rattle.demand_2.specs.Calls.{Reply, Reply.answer, Reply.several, Reply.reading, Reply.stepped, Reply.attribute, Reply.located, Reply.lent, Reply.copied, Reply.number, Reply.numberCopied}
+use Rattle.demand_2.specs.Calls.{Reply, Reply.answer, Reply.several, Reply.reading, Reply.stepped, Reply.attribute, Reply.located, Reply.lent, Reply.boardText, Reply.copied, Reply.number, Reply.numberCopied}
 
 -- ---- the calls: those that write, and those that ask
 pub data WriteFromC : Type 0 where
@@ -107,6 +107,7 @@ replyCrossed (stepped s) = number (stepCrossed s)
 replyCrossed (attribute a) = attribute a
 replyCrossed (located p) = number (partCrossed p)
 replyCrossed (lent p l) = lent p l
+replyCrossed (boardText t) = boardText t
 replyCrossed (copied r) = numberCopied (crossed r)
 replyCrossed (number n) = number n
 replyCrossed (numberCopied r) = numberCopied r

@@ -23,17 +23,18 @@ use Rattle.refusals.specs.declared.Answer.{Answer}
 use Rattle.refusals.specs.declared.Answer.the-variants.{Done, Refused}
 use Rattle.ultra_format.specs.declared.records.ModuleRecord.{ModuleRecord}
 use Rattle.ultra_stepping.specs.Checks.{boundsCheck}
-use Rattle.ultra_stepping.specs.Stepping.{stepRefused, cursorAt, headerAt, stepRefusedAt}
+use Rattle.ultra_stepping.specs.Stepping.{cursorAt, headerAt, stepRefusedAt}
 use Rattle.ultra_reading.specs.declared.Reading.the-variants as readings
 use Rattle.ultra_stepping.specs.declared.cursor.Cursor.{Cursor}
 use Rattle.ultra_stepping.specs.declared.cursor.Step.{Step}
 use Rattle.ultra_stepping.specs.declared.cursor.Step.the-variants as stepping
 use Rattle.ultra_acceptance.specs.Acceptance.{versionIn}
 use Rattle.lent_buffers.specs.LentParts.{noPart}
+use Rattle.ultra_locating.specs.Searching.{Found, Found.none, Found.found}
 use Rattle.ultra_questions.specs.Parts.{bodyPart, partBytes}
 use Rattle.ultra_questions.specs.AttributeQuestion.{unanswered, startOrCount, withMembers}
 use Rattle.ultra_map_question.specs.MapQuestion.{numbers, mapIn, overBytes}
-use Rattle.ultra_questions.specs.CommandLineQuestion.{commandLineIn, textIn}
+use Rattle.ultra_questions.specs.CommandLineQuestion.{lineIn, commandLineIn}
 use Rattle.ultra_questions.specs.ModuleQuestion.{moduleIn}
 use Rattle.ultra_appending.specs.Appending.{appendCheck}
 use Rattle.ultra_modules.specs.Modules.{inTurn}
@@ -43,7 +44,7 @@ use Rattle.demand_2.specs.Calls.{membersFormed, membersBody, Write.begin
 use Rattle.demand_2.specs.Calls.{Question, Question.read, Question.step, Question.askAttribute, Question.askStart, Question.askPart, Question.copyMap, Question.copyMapBytes}
 use Rattle.demand_2.specs.Calls.{Question.askLine, Question.locateLine, Question.askModule, Question.list, Question.askListingLength}
 use Rattle.demand_2.specs.Calls.{Call, Call.write, Call.ask, Reply}
-use Rattle.demand_2.specs.Calls.{Reply.answer, Reply.several, Reply.reading, Reply.stepped, Reply.attribute, Reply.located, Reply.lent, Reply.copied, Reply.number}
+use Rattle.demand_2.specs.Calls.{Reply.answer, Reply.several, Reply.reading, Reply.stepped, Reply.attribute, Reply.located, Reply.lent, Reply.boardText, Reply.copied, Reply.number}
 use Rattle.demand_2.specs.CallsFromC.{asked, replyCrossed, AnyCall, inRattle}
 use Rattle.demand_2.specs.CallsFromC.{AnyCall.fromRattle, AnyCall.fromC}
 
@@ -122,6 +123,11 @@ stepIn room c k = pick (leb (count c) (k .index)) stepping.End (stepWithin room 
 abbrev pub partIn : Context → ℕ → Reply
 partIn c i = pick (ltb i (count c)) (lent (bodyPart (startIn (c .attributes) i) (bodyAt c i)) (partBytes (bodyAt c i))) (lent noPart [])
 
+-- "the context's own line where the context is accepted and has one, even an empty one, and otherwise the board's text"
+abbrev pub lineReply : List ℕ → Found → Reply
+lineReply board none = boardText board
+lineReply board (found o a) = lent (bodyPart o (a .body)) (partBytes (a .body))
+
 -- what a question answers: first of a buffer that holds c, second of one that reading refuses with r
 unfoldable pub repliesIn : ℕ → Context → Refusal → Question → Reply × Reply
 repliesIn room c r read = (reading (readings.Accepted (versionIn c) (used c)), reading (readings.Refused r))
@@ -131,7 +137,7 @@ repliesIn room c r (askStart i) = (answer (startOrCount c i), answer (Refused r)
 repliesIn room c r (askPart i) = (partIn c i, lent noPart [])
 repliesIn room c r (copyMap out) = (copied (mapIn c out), copied (Refused r, out))
 repliesIn room c r (copyMapBytes out) = (copied (overBytes out (mapIn c (numbersIn out))), copied (overBytes out (Refused r, numbersIn out)))
-repliesIn room c r askLine = (lent (commandLineIn c) (textIn c), lent noPart [])
+repliesIn room c r (askLine board) = (lineReply board (lineIn c), boardText board)
 repliesIn room c r locateLine = (located (commandLineIn c), located noPart)
 repliesIn room c r (askModule a) = (answer (moduleIn c a), answer (Refused r))
 repliesIn room c r (list out) = (copied (textListed (linesBytes (contextLines c)) out), copied (textListed (linesBytes (refusedLines r)) out))

@@ -16,6 +16,7 @@ use Rattle.ultra_format.specs.Decoding.{contextOf}
 use Rattle.ultra_format.specs.Contexts.{Context}
 use Rattle.ultra_format.specs.Plain.{Plain}
 use Rattle.lent_buffers.specs.Room.{roomOf}
+use Rattle.lent_buffers.specs.LentParts.{part}
 use Rattle.ultra_format.specs.Examples.{zeros, junk, listed, listedBytes, sixTypes, sixTypesBytes}
 use Rattle.ultra_format.specs.Additions.{Addition, bodyGiven}
 use Rattle.ultra_format.specs.Additions.{Addition.addPlatform, Addition.addKernel, Addition.addMap, Addition.addModule, Addition.addCommandLine, Addition.addFramebuffer}
@@ -30,13 +31,14 @@ use Rattle.ultra_building.specs.Building.{begun}
 use Rattle.ultra_adding.specs.Adding.{added}
 use Rattle.ultra_modules.specs.Modules.{answerAndCount, modulesAdded}
 use Rattle.ultra_acceptance.specs.Acceptance.{HoldsContext}
-use Rattle.demand_3.specs.Witness.{everyPlatformRecord, everyKernelRecord, everyModuleRecord, everyFramebufferRecord, everyEntries, everyLine}
+use Rattle.ultra_question_statements.specs.Witness.{everyLine}
+use Rattle.demand_3.specs.Witness.{everyPlatformRecord, everyKernelRecord, everyModuleRecord, everyFramebufferRecord, everyEntries}
 use Rattle.ultra_acceptance.specs.Steps.{StepsThrough}
 use Rattle.demand_2.specs.Calls.{Members, membersBody, Members.platformMembers, Members.kernelMembers, Members.mapMembers, Members.moduleMembers}
 use Rattle.demand_2.specs.Calls.{Write, Write.begin, Write.add, Write.addMembers, Write.addModules}
 use Rattle.demand_2.specs.Calls.{Question, Question.read, Question.step, Question.askAttribute, Question.askStart, Question.askPart, Question.copyMap, Question.copyMapBytes}
 use Rattle.demand_2.specs.Calls.{Question.askLine, Question.locateLine, Question.askModule, Question.list, Question.askListingLength}
-use Rattle.demand_2.specs.Calls.{Call.write, Call.ask, Reply.answer, Reply.several, Reply.number, runWrite, run}
+use Rattle.demand_2.specs.Calls.{Call.write, Call.ask, Reply.answer, Reply.several, Reply.lent, Reply.boardText, Reply.number, runWrite, run}
 use Rattle.demand_2.specs.CallsFromC.{CallFromC, CallFromC.writeFromC, CallFromC.askFromC, runFromC, asked, AnyCall, inRattle, runAny, after, replies}
 use Rattle.demand_2.specs.CallsFromC.{AnyCall.fromRattle, AnyCall.fromC}
 use Rattle.demand_2.specs.CallsFromC.{QuestionFromC, QuestionFromC.ultraRead, QuestionFromC.ultraStep, QuestionFromC.ultraAttribute, QuestionFromC.ultraCopyMap, QuestionFromC.ultraCommandLine, QuestionFromC.ultraModuleHolding}
@@ -125,7 +127,7 @@ everyQuestion =
     ∷ askPart 2
     ∷ copyMap (1 ∷ [])
     ∷ copyMapBytes (1 ∷ [])
-    ∷ askLine
+    ∷ askLine (0 ∷ 255 ∷ [])
     ∷ locateLine
     ∷ askModule 8589934592
     ∷ list (1 ∷ [])
@@ -302,6 +304,22 @@ pub record SeveralModules : Type 0 where
   pub appended : (b : List ℕ) (c : Context) (n : ℕ) → HoldsContext 0 b c → let ms = replicate n (aModule 1) in
       HoldsContext 0 (modulesAdded b ms .1) (withModules c (take (modulesAdded b ms .0 .added) ms))
 
+-- ---- the command line, with any text of the board
+abbrev pub askingLine : List ℕ → AnyCall
+askingLine board = fromRattle (ask (askLine board))
+
+abbrev pub twoAndLine : List ℕ → List Addition
+twoAndLine t = two ++ (addCommandLine t ∷ [])
+
+pub record BoardTexts : Type 0 where
+  -- the line, and an empty one, lie after the two attributes' 432 bytes and their own header
+  pub line : (b board : List ℕ) → length b ≡ 448
+      → runAny (askingLine board) (bufferNow b (adds (twoAndLine (113 ∷ [])))) .0 ≡ lent (part 440 1) (113 ∷ [])
+  pub emptyLine : (b board : List ℕ) → length b ≡ 448 → runAny (askingLine board) (bufferNow b (adds (twoAndLine []))) .0 ≡ lent (part 440 0) []
+  -- no line; and one attribute, which is refused
+  pub noLine : (b board : List ℕ) → length b ≡ 432 → runAny (askingLine board) (bufferNow b (adds two)) .0 ≡ boardText board
+  pub unread : (b board : List ℕ) → length b ≡ 96 → runAny (askingLine board) (bufferNow b (adds one)) .0 ≡ boardText board
+
 -- a call from C that is refused changes nothing, in any buffer; and an add of members that changes a buffer is the add of a record
 pub record FromCAndMembers : Type 0 where
   pub keeps : (b : List ℕ) (k : CallFromC) (a : Answer) → run (asked k) b .0 ≡ answer a → (numberOf a ≡ 0 → ⊥) → runFromC k b .1 ≡ b
@@ -324,6 +342,7 @@ pub record Witnessed : Type 0 where
   pub enough : TwoAreEnough
   pub writes : WritesAnswered
   pub modules : SeveralModules
+  pub boards : BoardTexts
   -- whatever was built is plain
   pub plain : (b : List ℕ) (ks : List AnyCall) → begun b .0 ≡ Done 8 → AllTyped ks → Plain (bufferNow b ks) (contextGiven (listNow b ks))
   pub head : (b : List ℕ) → length b ≡ 8 → begun b ≡ (Done 8, 1 ∷ zeros 7)

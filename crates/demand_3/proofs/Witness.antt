@@ -24,7 +24,8 @@ use Rattle.ultra_questions.specs.declared.attributes.AttributeAnswer.{Attribute
 use Rattle.ultra_questions.specs.AttributeQuestion.{answered, unanswered, attributeAnswer, PartHandedBack}
 use Rattle.ultra_questions.proofs.AttributeLaws.{part-inside}
 use Rattle.demand_3.specs.Demand3.{partAt, ReadingIs, SameReading}
-use Rattle.demand_3.specs.Witness.{everyAnswers, everyEntries, everyLine, lentAt, Witnessed}
+use Rattle.ultra_question_statements.specs.Witness.{everyLine, lentAt}
+use Rattle.demand_3.specs.Witness.{everyAnswers, everyEntries, Witnessed}
 use Rattle.demand_3.proofs.Demand3.{demand-3}
 
 -- ---- what a writer writes, and the noise, cell by cell

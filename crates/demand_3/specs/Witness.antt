@@ -29,6 +29,7 @@ use Rattle.lent_buffers.specs.declared.Part.{Part}
 use Rattle.ultra_questions.specs.declared.attributes.AttributeAnswer.{AttributeAnswer}
 use Rattle.lent_buffers.specs.LentParts.{part, noPart, PartOf}
 use Rattle.ultra_questions.specs.AttributeQuestion.{unanswered, attributeAnswer, PartHandedBack}
+use Rattle.ultra_question_statements.specs.Witness.{everyLine, lentAt}
 use Rattle.demand_3.specs.Demand3.{partAt, SameReading}
 
 -- ---- the records of the context with every type, each beside blank ones
@@ -137,7 +138,7 @@ everyAnswers =
     ∷ theAnswer 672 7 16 blankRecords noPart
     ∷ []
 
--- the bytes of the map's part and of the command line's
+-- the bytes of the map's part; those of the command line's are `everyLine`
 abbrev pub everyEntries : List ℕ
 everyEntries =
     zeros 8
@@ -146,13 +147,6 @@ everyEntries =
     ++ (0 ∷ 240 ∷ 255 ∷ 255 ∷ 255 ∷ 255 ∷ 255 ∷ 255 ∷ [])
     ++ (0 ∷ 16 ∷ zeros 6)
     ++ (0 ∷ 0 ∷ 0 ∷ 0 ∷ 1 ∷ 0 ∷ 0 ∷ 0 ∷ [])
-
-abbrev pub everyLine : List ℕ
-everyLine = 110 ∷ 111 ∷ 97 ∷ 112 ∷ 105 ∷ 99 ∷ 61 ∷ 49 ∷ []
-
--- bytes that are lent at an address, in one block of memory
-abbrev pub lentAt : ℕ → List ℕ → RefT (List ℕ)
-lentAt o l = record { ptr = (1, o); name = 0; now = l }
 
 pub record Witnessed : Type 0 where
   pub bytes : Bytes everyTypeBytes

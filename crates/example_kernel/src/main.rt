@@ -18,7 +18,8 @@ fn copy_ranges(context: &[u8], ranges: &mut [u64]) -> u32
     }
 }
 
-// Goes on with an accepted context. The command line is handed back as a part of it, not as a copy.
+// Goes on with an accepted context. The command line is handed back as a part of it, not as a copy; where none was sent, the board's own
+// text is.
 fn go_on(context: &[u8], used: u32) {
     let mut ranges = [0u64; 384];
     let entries = copy_ranges(context, &mut ranges);
@@ -26,7 +27,7 @@ fn go_on(context: &[u8], used: u32) {
         b"used=#\nranges=#\nfirst=#,#,#\ncmdline=",
         &[used as u64, entries as u64, ranges[0], ranges[1], ranges[2]],
     );
-    print::words(ultra_questions::command_line(context));
+    print::words(ultra_questions::command_line(context, b"console=serial"));
     print::words(b"\n");
 }
 

@@ -1,4 +1,4 @@
-// The calls that change nothing, and hand back numbers or a part of the buffer.
+// The calls that change nothing, and hand back numbers or a part of what they are lent.
 use call_frames::answers;
 use call_frames::frame;
 use call_frames::reply;
@@ -78,9 +78,9 @@ fn attribute_part(index: u64, buf: &[u8], out: &mut [u8]) -> u32 {
     answers::part(out, 6, part.start, part.length, buf, bytes)
 }
 
-fn command_line(buf: &[u8], out: &mut [u8]) -> u32 {
+fn command_line<'a>(board: &'a [u8], buf: &'a [u8], out: &mut [u8]) -> u32 {
     let part = ultra_questions::command_line_part(buf);
-    let text = ultra_questions::command_line(buf);
+    let text = ultra_questions::command_line(buf, board);
     answers::part(out, 9, part.start, part.length, buf, text)
 }
 
@@ -95,7 +95,7 @@ fn listing_length(buf: &[u8], out: &mut [u8]) -> u32 {
 }
 
 // Makes one of the calls 1 to 6, 9 to 11 and 24.
-pub fn make(call: u32, frame: &[u8], buf: &[u8], out: &mut [u8]) -> u32 {
+pub fn make<'a>(call: u32, frame: &'a [u8], buf: &'a [u8], out: &mut [u8]) -> u32 {
     let given = frame::number(frame, 0);
     match call {
         1 => read(buf, out),
@@ -104,7 +104,7 @@ pub fn make(call: u32, frame: &[u8], buf: &[u8], out: &mut [u8]) -> u32 {
         4 => crate::attribute::make(given, buf, out),
         5 => answers::plain(out, 5, ultra_questions::attribute_start(buf, given), buf),
         6 => attribute_part(given, buf, out),
-        9 => command_line(buf, out),
+        9 => command_line(frame::string(frame, 1), buf, out),
         10 => command_line_part(buf, out),
         11 => answers::plain(out, 11, ultra_questions::module_holding(buf, given), buf),
         _ => listing_length(buf, out),

@@ -25,3 +25,7 @@ pub record PartOf (r s : RefT (List ℕ)) (p : Part) : Type 0 where
 -- the same said of the pointers alone, apart from `PartOf`: r is memory of s, `o` bytes further on
 abbrev pub LiesAt : RefT (List ℕ) → RefT (List ℕ) → ℕ → Type 0
 LiesAt r s o = (r .ptr .0 ≡ s .ptr .0) × (r .ptr .1 ≡ o + s .ptr .1)
+
+-- r is all of s and no copy: the same memory, from the same byte on, with the same bytes
+abbrev pub WholeOf : RefT (List ℕ) → RefT (List ℕ) → Type 0
+WholeOf r s = (r .ptr ≡ s .ptr) × (r .now ≡ s .now)

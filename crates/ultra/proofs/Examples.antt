@@ -12,14 +12,14 @@ use Rattle.ultra_stepping.specs.Stepping.{cursorCheck, stepOf}
 use Rattle.ultra_questions.specs.Parts.{bodyPart}
 use Rattle.ultra_locating.specs.Searching.{first}
 use Rattle.ultra_questions.specs.AttributeQuestion.{attributeStart}
-use Rattle.ultra_questions.specs.CommandLineQuestion.{commandLinePart}
+use Rattle.ultra_questions.specs.CommandLineQuestion.{lineFound, commandLinePart}
 use Rattle.ultra_map_question.specs.MapQuestion.{numbers, mapCopied, mapCopiedBytes}
 use Rattle.address_ranges.specs.Ranges.{pagesCover}
 use Rattle.ultra_questions.specs.ModuleQuestion.{moduleHolding}
 use Rattle.ultra.specs.Examples.{Examples}
 
 pub examples : Examples
-unfolding numberAt numbersAt numbersBytes textAt bytesAt entriesAt every sizeSuits values kernelValues moduleValues bppSuits framebufferValues texts asciiText pathText ranges ordered entriesOrdered bodyCheck placed occurs placeCheck decoded start typesBefore attributesFrom contextOf total first bodyPart headCheck boundsCheck attributeCheck attributesAnswer usedLength readingOf cursorCheck stepOf attributeStart commandLinePart numbers mapCopied mapCopiedBytes pagesCover moduleHolding
+unfolding numberAt numbersAt numbersBytes textAt bytesAt entriesAt every sizeSuits values kernelValues moduleValues bppSuits framebufferValues texts asciiText pathText ranges ordered entriesOrdered bodyCheck placed occurs placeCheck decoded start typesBefore attributesFrom contextOf total first bodyPart headCheck boundsCheck attributeCheck attributesAnswer usedLength readingOf cursorCheck stepOf attributeStart lineFound commandLinePart numbers mapCopied mapCopiedBytes pagesCover moduleHolding
 examples =
     record {
       used = refl;

@@ -2,7 +2,7 @@
 use Prim.Native.Nat.{ℕ}
 use mathlib.Core.Path.{_≡_, refl, sym, ap, _∙_, subst}
 use mathlib.Core.Bool.{Bool, true, false}
-use mathlib.Core.List.{List}
+use mathlib.Core.List.{List, []}
 use native.Mathlib.Omega.{arith}
 use lib.Dec.{eqb}
 use borrow.Author.Tests.{eqb-true, eqb-false}
@@ -16,21 +16,20 @@ use Rattle.ultra_format.proofs.Decoded.{count-decoded, start-decoded, at-decode
 use Rattle.ultra_reading.specs.Reading.{usedLength}
 use Rattle.ultra_acceptance.specs.Acceptance.{HoldsContext}
 use Rattle.ultra_acceptance.proofs.Acceptance.{complete}
-use Rattle.lent_buffers.specs.LentParts.{PartOf, LiesAt}
 use Rattle.ultra_questions.specs.Parts.{bodyPart, partBytes}
 use Rattle.ultra_questions.specs.AttributeQuestion.{attributeStart, attributeAnswer}
 use Rattle.ultra_map_question.specs.MapQuestion.{mapCopied}
-use Rattle.ultra_questions.specs.CommandLineQuestion.{commandLineIn, textIn, commandLinePart, LineHandedBack}
+use Rattle.ultra_questions.specs.CommandLineQuestion.{lineIn, foundPart, commandLineIn, foundText, textIn, lineFound, commandLinePart, LineOrBoard, LineHandedBack}
 use Rattle.ultra_questions.specs.ModuleQuestion.{moduleHolding}
-use Rattle.ultra_locating.specs.Searching.{firstIn, foundStart, ofType}
+use Rattle.ultra_locating.specs.Searching.{Found, Found.none, Found.found, foundStart, ofType}
 use Rattle.ultra_question_statements.specs.ByContext.{ByContext, QuestionsByContext}
 use Rattle.ultra_locating.proofs.Searches.{found-at, none-at}
 use Rattle.ultra_question_statements.proofs.PartCells.{part-bytes, slice-bytes}
 
 module _ (b : List ℕ) (h : HoldsContext 2 b (contextOf b)) where
   -- the part of what is found has its bytes
-  found-text : (t : Bool) → eqb (foundStart (firstIn (ofType 5) (contextOf b))) 0 ≡ t
-      → let p = commandLineIn (contextOf b) in bytesAt b (p .start) (p .length) ≡ textIn (contextOf b)
+  found-text : (t : Bool) → eqb (foundStart (lineIn (contextOf b))) 0 ≡ t
+      → let p = commandLineIn (contextOf b) in bytesAt b (p .start) (p .length) ≡ textIn [] (contextOf b)
   unfolding bytesAt
   found-text true e = rw (none-at (ofType 5) b (eqb-true _ 0 e))
   found-text false e =
@@ -41,21 +40,28 @@ module _ (b : List ℕ) (h : HoldsContext 2 b (contextOf b)) where
       (subst (λ (a : Attribute). bytesAt b (bodyPart (start b i) (a .body) .start) (bodyPart (start b i) (a .body) .length) ≡ partBytes (a .body)) (at-decoded b i (f .below))
       (rw o at (part-bytes b 2 (roomOf b) (contextOf b) (h .0) (h .1) i (rw count-decoded (f .below)))))
 
-  line-text : let p = commandLineIn (contextOf b) in bytesAt b (p .start) (p .length) ≡ textIn (contextOf b)
-  line-text = found-text (eqb (foundStart (firstIn (ofType 5) (contextOf b))) 0) refl
+  line-text : let p = commandLineIn (contextOf b) in bytesAt b (p .start) (p .length) ≡ textIn [] (contextOf b)
+  line-text = found-text (eqb (foundStart (lineIn (contextOf b))) 0) refl
 
 module _ (b : List ℕ) (c : Context) (h : HoldsContext 2 b (contextOf b)) (e : usedLength 2 b ≡ Done (used c)) (q : contextOf b ≡ c) where
+  found-is : lineFound b ≡ lineIn c
+  unfolding lineFound
+  found-is = rw (e, q)
+
   line-is : commandLinePart b ≡ commandLineIn c
   unfolding commandLinePart
-  line-is = rw (e, q)
+  line-is = ap foundPart found-is
 
-  text-is : let p = commandLineIn c in bytesAt b (p .start) (p .length) ≡ textIn c
+  text-is : let p = commandLineIn c in bytesAt b (p .start) (p .length) ≡ textIn [] c
   text-is = rw q at (line-text b h)
 
-  slice-is : (lent s : RefT (List ℕ)) → s .now ≡ b → LineHandedBack lent s → PartOf lent s (commandLineIn c) × LiesAt lent s (commandLineIn c .start) × (lent .now ≡ textIn c)
-  slice-is lent s k g =
-      let w = subst (PartOf lent s) (ap commandLinePart k ∙ line-is) g in
-      (w, (w .block, w .offset), slice-bytes b lent s (commandLineIn c) k w ∙ text-is)
+  module _ (lent s board : RefT (List ℕ)) (k : s .now ≡ b) where
+    slice-text : (f : Found) → bytesAt b (foundPart f .start) (foundPart f .length) ≡ foundText [] f → LineOrBoard lent s board f → lent .now ≡ foundText (board .now) f
+    slice-text none t w = w .1
+    slice-text (found o a) t w = slice-bytes b lent s (bodyPart o (a .body)) k w ∙ t
+
+    slice-is : LineHandedBack lent s board → LineOrBoard lent s board (lineIn c) × (lent .now ≡ textIn (board .now) c)
+    slice-is g = let w = subst (LineOrBoard lent s board) (ap lineFound k ∙ found-is) g in (w, slice-text (lineIn c) text-is w)
 
   by-context : ByContext b c
   unfolding attributeStart attributeAnswer mapCopied moduleHolding
@@ -64,6 +70,7 @@ module _ (b : List ℕ) (c : Context) (h : HoldsContext 2 b (contextOf b)) (e : 
         starts = λ i. rw (e, q);
         attributes = λ i. rw (e, q);
         maps = λ out. rw (e, q);
+        found = found-is;
         line = line-is;
         text = rw line-is text-is;
         slice = slice-is;

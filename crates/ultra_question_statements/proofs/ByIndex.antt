@@ -110,12 +110,12 @@ module _ (room : ℕ) (c : Context) (m : Meets 2 room c) where
   map-is : (i : ℕ) (es : List Entry) (out : List ℕ) → i < count c → bodyAt c i ≡ memoryMap es → 3 * length es ≤ length out → mapIn c out ≡ (Done (length es), over (numbers es) out)
   map-is i es out h e k = rw (found-type room c m 3 refl i h (ap typeOf e), e, le-leb (3 * length es) (length out) k)
 
-  line-is : (i : ℕ) (t : List ℕ) → i < count c → bodyAt c i ≡ commandLine t → (commandLineIn c ≡ part (startIn (c .attributes) i + 8) (length t)) × (textIn c ≡ t)
+  line-is : (i : ℕ) (t : List ℕ) → i < count c → bodyAt c i ≡ commandLine t → (commandLineIn c ≡ part (startIn (c .attributes) i + 8) (length t)) × ((board : List ℕ) → textIn board c ≡ t)
   unfolding bodyPart partBytes
-  line-is i t h e = let f = found-type room c m 5 refl i h (ap typeOf e) in (rw (f, e), rw (f, e))
+  line-is i t h e = let f = found-type room c m 5 refl i h (ap typeOf e) in (rw (f, e), λ board. rw (f, e))
 
-  no-line : ((i : ℕ) → i < count c → typeAt c i ≡ 5 → ⊥) → (commandLineIn c ≡ noPart) × (textIn c ≡ [])
-  no-line n = let f = found-none room c m 5 refl n in (rw f, rw f)
+  no-line : ((i : ℕ) → i < count c → typeAt c i ≡ 5 → ⊥) → (commandLineIn c ≡ noPart) × ((board : List ℕ) → textIn board c ≡ board)
+  no-line n = let f = found-none room c m 5 refl n in (rw f, λ board. rw f)
 
 pub questions-by-index : QuestionsByIndex
 unfolding mapCopiedBytes

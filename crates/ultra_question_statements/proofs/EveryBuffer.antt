@@ -25,11 +25,10 @@ use Rattle.ultra_reading.specs.Reading.{usedLength, withVersion, versionOf, rea
 use Rattle.ultra_reading.specs.declared.Reading.the-variants as reading
 use Rattle.ultra_acceptance.specs.Acceptance.{HoldsContext}
 use Rattle.ultra_acceptance.proofs.Acceptance.{accepts-exactly}
-use Rattle.lent_buffers.specs.declared.Part.{Part}
 use Rattle.ultra_questions.specs.declared.attributes.AttributeAnswer.{AttributeAnswer}
-use Rattle.lent_buffers.specs.LentParts.{part, PartOf}
+use Rattle.lent_buffers.specs.LentParts.{part, noPart, PartOf, WholeOf}
 use Rattle.ultra_questions.specs.Parts.{partBytes}
-use Rattle.ultra_locating.specs.Searching.{firstIn, foundStart, ofType}
+use Rattle.ultra_locating.specs.Searching.{Found.none, firstIn, foundStart, ofType}
 use Rattle.ultra_question_statements.specs.EveryBuffer.{RefusedBy, MapHeld, NoLine, LineHeld, AnswersOf, EveryBuffer}
 use Rattle.ultra_question_statements.specs.QuestionRefusals.{MapRefused, QuestionsRefuseExactly, RefusalsPassOn}
 use Rattle.ultra_question_statements.specs.ByContext.{QuestionsByContext}
@@ -38,10 +37,11 @@ use Rattle.ultra_question_statements.specs.LastPage.{SamePage, OnPage, L
 use Rattle.ultra_question_statements.specs.MapAsBytes.{CopiesBytes}
 use Rattle.ultra_questions.specs.AttributeQuestion.{answered, withMembers, attributeStart, attributeAnswer, PartHandedBack}
 use Rattle.ultra_map_question.specs.MapQuestion.{numbers, mapCopied, mapCopiedBytes}
-use Rattle.ultra_questions.specs.CommandLineQuestion.{commandLineIn, LineHandedBack}
+use Rattle.ultra_questions.specs.CommandLineQuestion.{foundPart, commandLineIn, commandLinePart, LineOrBoard, LineHandedBack}
 use Rattle.ultra_questions.specs.ModuleQuestion.{holding, moduleHolding}
+use Rattle.ultra_crossing.specs.Crossing.{partCrossed}
 use Rattle.ultra_question_statements.proofs.PartCells.{slice-empty}
-use Rattle.ultra_question_statements.proofs.FirstByIndex.{Outcome, outcome}
+use Rattle.ultra_question_statements.proofs.FirstByIndex.{NoneMeets, FirstAt, Outcome, outcome}
 use Rattle.ultra_question_statements.proofs.QuestionRefusals.{done-refused, map-body, questions-refuse, refusals-pass-on}
 use Rattle.ultra_question_statements.proofs.ByContext.{questions-by-context}
 use Rattle.ultra_question_statements.proofs.ByIndex.{none-said, questions-by-index}
@@ -222,23 +222,43 @@ module _ (refuse : QuestionsRefuseExactly) (pass : RefusalsPassOn) (byContext : 
       let e = byContext b c h .modules a in
       e ∙ sym (on-page c h x o .1 (asked-alike c (λ i m k p. (p .0, p .1, p .2, p .3 ∙ s)) (λ i m k p. (p .0, p .1, p .2, p .3 ∙ sym s)) o (on-page c h a o .0 e)))
 
-  module _ (lent s : RefT (List ℕ)) (e : s .now ≡ b) (p : LineHandedBack lent s) where
-    line-of : (c : Context) → HoldsContext 2 b c → Outcome (ofType 5) 8 (c .attributes) (firstIn (ofType 5) c) → ((lent .now ≡ []) × NoLine b) ⊎ LineHeld b lent s
-    line-of c h (inl r) =
-        let n : (i : ℕ) → i < count c → typeAt c i ≡ 5 → ⊥ = λ i k. eqb-false (typeAt c i) 5 (r .1 i k) in
-        inl (byContext b c h .slice lent s e p .2 ∙ byIndex b c h .noLine n .1, inr (c, h, n))
+  -- ---- the command line
+  none-of : (c : Context) → (firstIn (ofType 5) c ≡ none) × NoneMeets (ofType 5) (c .attributes) → (i : ℕ) → i < count c → typeAt c i ≡ 5 → ⊥
+  none-of c r i k = eqb-false (typeAt c i) 5 (r .1 i k)
+
+  line-at : (c : Context) → HoldsContext 2 b c → (f : FirstAt (ofType 5) 8 (c .attributes) (firstIn (ofType 5) c)) → (t : List ℕ) × (bodyAt c (f .index) ≡ commandLine t)
+  line-at c h f = line-body (bodyAt c (f .index)) (h .0 .each (f .index) (f .below) .typeSuits) (eqb-true (typeAt c (f .index)) 5 (f .meets))
+
+  module _ (lent s board : RefT (List ℕ)) (e : s .now ≡ b) (p : LineHandedBack lent s board) where
+    line-of : (c : Context) → HoldsContext 2 b c → Outcome (ofType 5) 8 (c .attributes) (firstIn (ofType 5) c) → (WholeOf lent board × NoLine b) ⊎ LineHeld b lent s
+    line-of c h (inl r) = inl (subst (LineOrBoard lent s board) (r .0) (byContext b c h .slice lent s board e p .0), inr (c, h, none-of c r))
     line-of c h (inr f) =
         let i = f .index in
-        let k = line-body (bodyAt c i) (h .0 .each i (f .below) .typeSuits) (eqb-true (typeAt c i) 5 (f .meets)) in
+        let k = line-at c h f in
         let w = byIndex b c h .line i (k .0) (f .below) (k .1) in
-        let l = byContext b c h .slice lent s e p in
-        let t : k .0 ≡ lent .now = sym (w .1) ∙ sym (l .2) in
+        let l = byContext b c h .slice lent s board e p in
+        let t : k .0 ≡ lent .now = sym (w .1 (board .now)) ∙ sym (l .1) in
         let q : commandLineIn c ≡ part (startIn (c .attributes) i + 8) (length (lent .now)) = sym (byContext b c h .line) ∙ w .0 ∙ ap (λ (x : List ℕ). part (startIn (c .attributes) i + 8) (length x)) t in
-        inr (c, h, i, f .below, k .1 ∙ ap commandLine t, (l .1 .0, l .1 .1 ∙ ap (λ (x : Part). x .start + s .ptr .1) q), subst (PartOf lent s) q (l .0))
+        let g : PartOf lent s (part (startIn (c .attributes) i + 8) (length (lent .now))) = subst (PartOf lent s) (sym (ap foundPart (f .is)) ∙ q) (subst (LineOrBoard lent s board) (f .is) (l .0)) in
+        inr (c, h, i, f .below, k .1 ∙ ap commandLine t, (g .block, g .offset), g)
 
-    line-is : Either b y → ((lent .now ≡ []) × NoLine b) ⊎ LineHeld b lent s
-    line-is (inl (r, q)) = inl (pass b r q .noLine lent s e p, inl (r, read-refused b y r q))
+    line-is : Either b y → (WholeOf lent board × NoLine b) ⊎ LineHeld b lent s
+    line-is (inl (r, q)) = inl (pass b r q .noLine lent s board e p, inl (r, read-refused b y r q))
     line-is (inr (c, h)) = line-of c h (outcome (ofType 5) 8 (c .attributes))
+
+  number-of : (c : Context) → HoldsContext 2 b c → partCrossed (commandLinePart b) ≡ 0 → Outcome (ofType 5) 8 (c .attributes) (firstIn (ofType 5) c) → NoLine b
+  number-of c h z (inl r) = inr (c, h, none-of c r)
+  number-of c h z (inr f) =
+      let k = line-at c h f in
+      absurd (omega (arith, z, ap partCrossed (byIndex b c h .line (f .index) (k .0) (f .below) (k .1) .0)))
+
+  zero-no-line : partCrossed (commandLinePart b) ≡ 0 → Either b y → NoLine b
+  zero-no-line z (inl (r, q)) = inl (r, read-refused b y r q)
+  zero-no-line z (inr (c, h)) = number-of c h z (outcome (ofType 5) 8 (c .attributes))
+
+  no-line-zero : NoLine b → partCrossed (commandLinePart b) ≡ 0
+  no-line-zero (inl (r, q)) = ap partCrossed (pass b r (refused-read b y r q) .line)
+  no-line-zero (inr (c, h, n)) = ap partCrossed (byIndex b c h .noLine n .0)
 
   answers-of : AnswersOf b
   answers-of =
@@ -262,7 +282,8 @@ module _ (refuse : QuestionsRefuseExactly) (pass : RefusalsPassOn) (byContext : 
         pageFree = page-free;
         heldBelow = held-below;
         onePage = λ a x s. one-page a x s (either b y);
-        line = λ lent s e p. line-is lent s e p (either b y);
+        line = λ lent s board e p. line-is lent s board e p (either b y);
+        lineNumber = (λ z. zero-no-line z (either b y), no-line-zero);
       }
 
 pub every-buffer : EveryBuffer

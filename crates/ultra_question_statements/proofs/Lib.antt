@@ -6,4 +6,5 @@ pub mod ByIndex
 pub mod LastPage
 pub mod MapAsBytes
 pub mod EveryBuffer
+pub mod BoardText
 pub mod Witness

@@ -1,6 +1,6 @@
 -- Proofs of the statements in specs/QuestionRefusals.antt: the questions answer by the context, whose one attribute of type 3 is its map.
 use Prim.Native.Nat.{ℕ, _*_, _/_, _<_}
-use mathlib.Core.Path.{_≡_, refl, sym, ap, _∙_}
+use mathlib.Core.Path.{_≡_, refl, sym, ap, _∙_, subst}
 use mathlib.Core.Bool.{Bool, true, false}
 use mathlib.Core.List.{List}
 use mathlib.Core.Logic.{_↔_, _⊎_.inl, _⊎_.inr}
@@ -23,10 +23,10 @@ use Rattle.refusals.specs.declared.Answer.{Answer}
 use Rattle.refusals.specs.declared.Answer.the-variants.{Done, Refused}
 use Rattle.ultra_acceptance.specs.Acceptance.{HoldsContext}
 use Rattle.ultra_questions.specs.declared.attributes.AttributeAnswer.{AttributeAnswer}
-use Rattle.ultra_locating.specs.Searching.{firstIn, ofType}
+use Rattle.ultra_locating.specs.Searching.{Found.none, firstIn, ofType}
 use Rattle.ultra_questions.specs.AttributeQuestion.{unanswered, startOrCount, withMembers, attributeStart, attributeAnswer}
 use Rattle.ultra_map_question.specs.MapQuestion.{numbers, entriesOf, entriesCopied, mapIn, mapCopied, mapCopiedBytes}
-use Rattle.ultra_questions.specs.CommandLineQuestion.{commandLinePart}
+use Rattle.ultra_questions.specs.CommandLineQuestion.{lineFound, commandLinePart, LineOrBoard}
 use Rattle.ultra_questions.specs.ModuleQuestion.{moduleHolding}
 use Rattle.ultra_question_statements.specs.QuestionRefusals.{IndexRefused, NoMap, TooShort, MapRefused, QuestionsRefuseExactly, RefusalsPassOn}
 use Rattle.ultra_question_statements.proofs.FirstByIndex.{FirstAt, Outcome, outcome, one-only}
@@ -159,15 +159,17 @@ questions-refuse b c h =
     }
 
 pub refusals-pass-on : RefusalsPassOn
-unfolding attributeStart attributeAnswer mapCopied commandLinePart moduleHolding
+unfolding attributeStart attributeAnswer mapCopied lineFound commandLinePart moduleHolding
 refusals-pass-on b r e =
+    let f : lineFound b ≡ none = rw e in
     record {
       starts = λ i. rw e;
       attributes = λ i. rw e;
       maps = λ out. rw e;
       mapsBytes = λ out y. bytes-kept b out y (Refused r) (rw e);
+      found = f;
       line = rw e;
       modules = λ a. rw e;
       noSlice = λ lent s i q h. slice-empty lent s (attributeAnswer (s .now) i .part) (rw (q, e)) h;
-      noLine = λ lent s q h. slice-empty lent s (commandLinePart (s .now)) (rw (q, e)) h;
+      noLine = λ lent s board q h. subst (LineOrBoard lent s board) (ap lineFound q ∙ f) h;
     }

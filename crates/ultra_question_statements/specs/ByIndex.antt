@@ -5,7 +5,7 @@
 use Prim.Native.Nat.{ℕ, _+_, _*_, _/_, _≤_, _<_}
 use mathlib.Core.Path.{_≡_}
 use mathlib.Core.Logic.{_↔_, _⊎_}
-use mathlib.Core.List.{List, []}
+use mathlib.Core.List.{List}
 use lib.ListN.{length}
 use Rattle.words.specs.Rounding.{roundedUp}
 use Rattle.byte_layout.specs.Stored.{Bytes, over}
@@ -51,10 +51,11 @@ pub record ByIndex (b : List ℕ) (c : Context) : Type 0 where
   pub mapBytes : (i : ℕ) (es : List Entry) (out : List ℕ) → Bytes out → i < count c → bodyAt c i ≡ memoryMap es
       → 3 * length es ≤ length out / 8
       → mapCopiedBytes b out ≡ (Done (length es), over (partBytes (memoryMap es)) out)
-  -- "The command line is handed back as that part of the buffer, up to its zero; an empty part if there is none": where it is, and its text
+  -- "The command line is handed back as that part of the buffer, up to its zero; an empty part if there is none": where it is, and the
+  -- text, which is the board's where there is none
   pub line : (i : ℕ) (t : List ℕ) → i < count c → bodyAt c i ≡ commandLine t
-      → (commandLinePart b ≡ part (startIn (c .attributes) i + 8) (length t)) × (textIn c ≡ t)
-  pub noLine : ((i : ℕ) → i < count c → typeAt c i ≡ 5 → ⊥) → (commandLinePart b ≡ noPart) × (textIn c ≡ [])
+      → (commandLinePart b ≡ part (startIn (c .attributes) i + 8) (length t)) × ((board : List ℕ) → textIn board c ≡ t)
+  pub noLine : ((i : ℕ) → i < count c → typeAt c i ≡ 5 → ⊥) → (commandLinePart b ≡ noPart) × ((board : List ℕ) → textIn board c ≡ board)
 
 abbrev pub QuestionsByIndex : Type 0
 QuestionsByIndex = (b : List ℕ) (c : Context) → HoldsContext 2 b c → ByIndex b c

@@ -16,12 +16,13 @@ use Rattle.refusals.specs.declared.Answer.the-variants.{Done, Refused}
 use Rattle.ultra_reading.specs.Reading.{readingOf}
 use Rattle.ultra_reading.specs.declared.Reading.the-variants as reading
 use Rattle.ultra_acceptance.specs.Acceptance.{HoldsContext}
-use Rattle.lent_buffers.specs.LentParts.{part, PartOf, LiesAt}
+use Rattle.lent_buffers.specs.LentParts.{part, PartOf, LiesAt, WholeOf}
 use Rattle.ultra_questions.specs.Parts.{partBytes}
 use Rattle.ultra_questions.specs.AttributeQuestion.{answered, attributeStart, attributeAnswer, PartHandedBack}
 use Rattle.ultra_map_question.specs.MapQuestion.{numbers, mapCopied, mapCopiedBytes}
-use Rattle.ultra_questions.specs.CommandLineQuestion.{LineHandedBack}
+use Rattle.ultra_questions.specs.CommandLineQuestion.{commandLinePart, LineHandedBack}
 use Rattle.ultra_questions.specs.ModuleQuestion.{moduleHolding}
+use Rattle.ultra_crossing.specs.Crossing.{partCrossed}
 use Rattle.ultra_question_statements.specs.QuestionRefusals.{IndexRefused, MapRefused}
 use Rattle.ultra_question_statements.specs.ByIndex.{NoModule, ModuleStart, HoldsAddress}
 use Rattle.ultra_question_statements.specs.LastPage.{SamePage, OnPage}
@@ -73,8 +74,11 @@ pub record AnswersOf (b : List ℕ) : Type 0 where
   pub heldBelow : (a o : ℕ) → moduleHolding b a ≡ Done o → 1 ≤ o → a < 18446744073709551616
   -- every address of a page gets the same answer, of a refused buffer too
   pub onePage : (a x : ℕ) → SamePage a x → moduleHolding b a ≡ moduleHolding b x
-  -- "The command line is handed back as that part of the buffer, up to its zero; an empty part if there is none or the buffer is refused."
-  pub line : (lent s : RefT (List ℕ)) → s .now ≡ b → LineHandedBack lent s → ((lent .now ≡ []) × NoLine b) ⊎ LineHeld b lent s
+  -- "hands back the context's own line where the context is accepted and has one, even an empty one, and otherwise the board's text": all
+  -- of it, whatever it is
+  pub line : (lent s board : RefT (List ℕ)) → s .now ≡ b → LineHandedBack lent s board → (WholeOf lent board × NoLine b) ⊎ LineHeld b lent s
+  -- "0 still means no line": the number toward C
+  pub lineNumber : (partCrossed (commandLinePart b) ≡ 0) ↔ NoLine b
 
 abbrev pub EveryBuffer : Type 0
 EveryBuffer = (b : List ℕ) → ((i : ℕ) → getD b i 0 < 256) → AnswersOf b

@@ -4,4 +4,5 @@ pub mod LastPage
 pub mod QuestionRefusals
 pub mod MapAsBytes
 pub mod EveryBuffer
+pub mod BoardText
 pub mod Witness

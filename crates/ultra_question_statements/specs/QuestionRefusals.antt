@@ -18,10 +18,11 @@ use Rattle.refusals.specs.declared.Answer.{Answer}
 use Rattle.refusals.specs.declared.Answer.the-variants.{Refused}
 use Rattle.ultra_acceptance.specs.Acceptance.{HoldsContext}
 use Rattle.ultra_reading.specs.Reading.{usedLength}
-use Rattle.lent_buffers.specs.LentParts.{noPart}
+use Rattle.lent_buffers.specs.LentParts.{noPart, WholeOf}
+use Rattle.ultra_locating.specs.Searching.{Found.none}
 use Rattle.ultra_questions.specs.AttributeQuestion.{unanswered, attributeStart, attributeAnswer, PartHandedBack}
 use Rattle.ultra_map_question.specs.MapQuestion.{mapCopied, mapCopiedBytes}
-use Rattle.ultra_questions.specs.CommandLineQuestion.{commandLinePart, LineHandedBack}
+use Rattle.ultra_questions.specs.CommandLineQuestion.{lineFound, commandLinePart, LineHandedBack}
 use Rattle.ultra_questions.specs.ModuleQuestion.{moduleHolding}
 
 -- ---- the questions' own rows
@@ -64,11 +65,13 @@ pub record PassesOn (b : List ℕ) (r : Answer) : Type 0 where
   pub maps : (out : List ℕ) → mapCopied b out ≡ (r, out)
   -- an output of bytes: it is taken as numbers and given back as bytes
   pub mapsBytes : (out : List ℕ) → Bytes out → mapCopiedBytes b out ≡ (r, out)
+  pub found : lineFound b ≡ none
   pub line : commandLinePart b ≡ noPart
   pub modules : (a : ℕ) → moduleHolding b a ≡ r
   -- "an empty part if .. the buffer is refused": whatever slice is handed back of a buffer that has these bytes
   pub noSlice : (lent s : RefT (List ℕ)) (i : ℕ) → s .now ≡ b → PartHandedBack lent s i → lent .now ≡ []
-  pub noLine : (lent s : RefT (List ℕ)) → s .now ≡ b → LineHandedBack lent s → lent .now ≡ []
+  -- of the command line, "otherwise the board's text" (R-5)
+  pub noLine : (lent s board : RefT (List ℕ)) → s .now ≡ b → LineHandedBack lent s board → WholeOf lent board
 
 abbrev pub RefusalsPassOn : Type 0
 RefusalsPassOn = (b : List ℕ) (r : Refusal) → usedLength 2 b ≡ Refused r → PassesOn b (Refused r)

@@ -1,10 +1,11 @@
 -- The statements on the questions do not speak of nothing: what they say, in digits, of a buffer that holds a context with every type of
 -- attribute (Examples, of crate ultra_format), on both sides of each limit. Proved in proofs/Witness.antt, `witnessed`, from them.
 -- A reader has to believe this file.
-use Prim.Native.Nat.{ℕ, _<_}
+use Prim.Native.Nat.{ℕ, _+_, _<_}
 use mathlib.Core.Path.{_≡_}
-use mathlib.Core.List.{List, _∷_}
+use mathlib.Core.List.{List, [], _∷_}
 use lib.ListN.{length, getD}
+use denote.Ref.{RefT}
 use Rattle.words.specs.Rounding.{roundedUp}
 use Rattle.refusals.specs.Answers.{refused}
 use Rattle.ultra_format.specs.Examples.{everyType, everyTypeBytes}
@@ -14,8 +15,16 @@ use Rattle.ultra_acceptance.specs.Acceptance.{HoldsContext}
 use Rattle.lent_buffers.specs.LentParts.{part}
 use Rattle.ultra_questions.specs.AttributeQuestion.{attributeStart}
 use Rattle.ultra_map_question.specs.MapQuestion.{mapCopied, mapCopiedBytes}
-use Rattle.ultra_questions.specs.CommandLineQuestion.{commandLinePart}
+use Rattle.ultra_questions.specs.CommandLineQuestion.{commandLinePart, LineHandedBack}
 use Rattle.ultra_questions.specs.ModuleQuestion.{moduleHolding}
+
+-- the text of its command line
+abbrev pub everyLine : List ℕ
+everyLine = 110 ∷ 111 ∷ 97 ∷ 112 ∷ 105 ∷ 99 ∷ 61 ∷ 49 ∷ []
+
+-- bytes that are lent at an address, in one block of memory
+abbrev pub lentAt : ℕ → List ℕ → RefT (List ℕ)
+lentAt o l = record { ptr = (1, o); name = 0; now = l }
 
 pub record Witnessed : Type 0 where
   pub holds : HoldsContext 2 everyTypeBytes everyType
@@ -43,3 +52,12 @@ pub record Witnessed : Type 0 where
   pub bytesTooShort : (out : List ℕ) → length out ≡ 47 → mapCopiedBytes everyTypeBytes out .0 ≡ refused 18 688
   -- the text of eight bytes, from 616 on
   pub line : commandLinePart everyTypeBytes ≡ part 616 8
+  -- of the buffer at the address 4096 the slice at 4712 is handed back, whatever the board's text is; any other that is handed back is the
+  -- same memory with the same bytes
+  pub lineSlice : (board : RefT (List ℕ)) → LineHandedBack (lentAt 4712 everyLine) (lentAt 4096 everyTypeBytes) board
+  pub anyLine : (lent s board : RefT (List ℕ)) → s .now ≡ everyTypeBytes → LineHandedBack lent s board
+      → (lent .ptr .0 ≡ s .ptr .0) × (lent .ptr .1 ≡ 616 + s .ptr .1) × (lent .now ≡ everyLine)
+  -- of an empty buffer, which is refused, the board's text
+  pub boardSlice : (board : RefT (List ℕ)) → LineHandedBack board (lentAt 4096 []) board
+  pub anyBoard : (lent s board : RefT (List ℕ)) → s .now ≡ [] → LineHandedBack lent s board
+      → (lent .ptr .0 ≡ board .ptr .0) × (lent .ptr .1 ≡ board .ptr .1) × (lent .now ≡ board .now)

@@ -1,7 +1,6 @@
 // The attribute at an index.
 ghost use mathlib.Core.Path.{_≡_};
-ghost use Rattle.lent_buffers.specs.LentParts.{PartOf};
-ghost use Rattle.ultra_questions.specs.AttributeQuestion.{attributeStart, attributeAnswer, unanswered};
+ghost use Rattle.ultra_questions.specs.AttributeQuestion.{attributeStart, attributeAnswer, unanswered, PartHandedBack};
 use lent_buffers::Part;
 use refusals::Answer;
 use refusals::Refusal;
@@ -72,7 +71,7 @@ pub fn attribute(buf: &[u8], index: u64) -> AttributeAnswer
 
 // The part that `attribute` names, as a slice of the lent buffer; an empty one where the attribute has none or is refused.
 pub fn attribute_part(buf: &[u8], index: u64) -> &[u8]
-    ensures { λ r. ⌜ PartOf r (buf .entry) (attributeAnswer (now (buf .entry)) index .part) ⌝ }
+    ensures { λ r. ⌜ PartHandedBack r (buf .entry) index ⌝ }
 {
     let answer = attribute(buf, index);
     lent_buffers::slice(buf, answer.part)

@@ -1,7 +1,6 @@
 // The command line.
 ghost use mathlib.Core.Path.{_≡_};
-ghost use Rattle.lent_buffers.specs.LentParts.{PartOf};
-ghost use Rattle.ultra_questions.specs.CommandLineQuestion.{commandLinePart};
+ghost use Rattle.ultra_questions.specs.CommandLineQuestion.{commandLinePart, LineHandedBack};
 use lent_buffers::Part;
 use refusals::Answer;
 use ultra_layout::attribute;
@@ -23,10 +22,16 @@ pub fn command_line_part(buf: &[u8]) -> Part
     crate::part::of_body(buf, start, size, types::COMMAND_LINE)
 }
 
-// The text up to its zero, "handed back as that part of the buffer"; an empty part where there is none or the buffer is refused.
-pub fn command_line(buf: &[u8]) -> &[u8]
-    ensures { λ r. ⌜ PartOf r (buf .entry) (commandLinePart (now (buf .entry))) ⌝ }
+// The context's own line, up to its zero, where the context is accepted and has one, even an empty one; otherwise all of the board's text:
+// "a part of one of the two texts lent and not a copy".
+pub fn command_line<'a>(buf: &'a [u8], board: &'a [u8]) -> &'a [u8]
+    ensures { λ r. ⌜ LineHandedBack r (buf .entry) (board .entry) ⌝ }
 {
     let part = command_line_part(buf);
-    lent_buffers::slice(buf, part)
+    let line = lent_buffers::slice(buf, part);
+    // A line never starts at 0, an empty one neither.
+    if part.start == 0 {
+        return board;
+    }
+    line
 }

@@ -153,7 +153,13 @@ fn memory_is_so_long() {
         let modules = frame(ADD_MODULES, &[], &[b"", &zeros[..length]]);
         assert_eq!(is_malformed(&modules), too_long, "{length} bytes");
     }
-    for call in [COPY_MAP_BYTES, MEMBERS_ADD_MAP, ADD_COMMAND_LINE, LIST] {
+    for call in [
+        COPY_MAP_BYTES,
+        COMMAND_LINE,
+        MEMBERS_ADD_MAP,
+        ADD_COMMAND_LINE,
+        LIST,
+    ] {
         assert!(!is_malformed(&frame(call, &[], &[b"", &zeros])));
     }
     // Of what is written the parts alone have a limit.
@@ -224,16 +230,81 @@ fn the_listed_context_is_answered() {
         (copied.numbers, copied.strings),
         (vec![18, 480], vec![vec![9; 23]])
     );
-    let line = ask(COMMAND_LINE, &[], &[]);
+    let line = ask(COMMAND_LINE, &[], &[b"board"]);
     assert_eq!(
         (line.numbers, line.strings),
         (vec![0, 0, 472, 5], vec![b"quiet".to_vec()])
     );
-    assert_eq!(ask(COMMAND_LINE_PART, &[], &[]).strings, [[0u8; 0]; 0]);
+    let part = ask(COMMAND_LINE_PART, &[], &[]);
+    assert_eq!(part.numbers, [0, 0, 472, 5]);
+    assert_eq!(part.strings, [[0u8; 0]; 0]);
     let length = ask(LISTING_LENGTH, &[], &[]).numbers[1];
     let short = vec![9; length as usize - 1];
     let list = ask(LIST, &[], &[&short]);
     assert_eq!((list.numbers, list.strings), (vec![18, 0], vec![short]));
+}
+
+#[test]
+fn a_frame_of_a_board_is_these_bytes() {
+    let bytes = [
+        9, 0, 0, 0, 0, 0, 0, 0, 2, 0, 0, 0, 12, 0, 0, 0, // No number, two strings.
+        255, 255, 255, 255, // The buffer kept.
+        4, 0, 0, 0, b'a', 0, 255, 0, // The board's text.
+    ];
+    assert_eq!(kept(COMMAND_LINE, &[], &[b"a\0\xff\0"]), bytes);
+
+    let mut out = Vec::new();
+    let mut driver = Driver::default();
+    let answer = driver.answer(&bytes);
+    driver.put_answer(&mut out, &answer);
+    // Four zeros, an empty buffer, and all of the board's text.
+    assert_eq!(out, frame(9, &[0; 4], &[b"", b"a\0\xff\0"]));
+}
+
+#[test]
+fn a_line_is_answered_with_the_boards_text() {
+    let line = |text: &[u8]| with(&[attribute(5, 16, &[(8, text)])]);
+    let refused = |text: &[u8]| [&[0][..], &line(text)[1..]].concat();
+    let long = [b'x'; 70_000];
+    for board in [&b""[..], b"board", b"\0", b"bo\0ard\0", b"\x80\xff", &long] {
+        for (buffer, numbers, text) in [
+            (line(b"quiet"), [0, 0, 440, 5], &b"quiet"[..]),
+            (line(b""), [0, 0, 440, 0], b""),
+            (line(b"\0after"), [0, 0, 440, 0], b""),
+            (with(&[]), [0; 4], board),
+            (refused(b"quiet"), [0; 4], board),
+            (refused(b""), [0; 4], board),
+            (vec![], [0; 4], board),
+        ] {
+            let mut driver = Driver::default();
+            let answer = driver.answer(&frame(COMMAND_LINE, &[], &[&buffer, board]));
+            assert_eq!((answer.call, answer.lent), (9, true));
+            assert_eq!(answer.numbers, numbers);
+            assert!(answer.strings == [text]);
+            // Call 10 says where the line lies, and hands nothing back.
+            let part = driver.answer(&kept(COMMAND_LINE_PART, &[], &[]));
+            assert_eq!((&part.numbers, part.strings.len()), (&answer.numbers, 0));
+            assert_eq!(driver.buffer, buffer);
+        }
+    }
+}
+
+#[test]
+fn a_line_is_not_asked_for_without_a_board() {
+    let mut driver = Driver::default();
+    driver.answer(&frame(READ, &[], &[&listed()]));
+    let no_board = [
+        kept(COMMAND_LINE, &[], &[]),
+        frame(COMMAND_LINE, &[], &[b"x"]),
+        kept(COMMAND_LINE, &[], &[b"x", b""]),
+        kept(COMMAND_LINE, &[0], &[b"x"]),
+        // The board's text is not kept.
+        with_word(kept(COMMAND_LINE, &[], &[b""]), 20, KEPT),
+    ];
+    for frame in no_board {
+        assert_eq!(driver.answer(&frame).call, MALFORMED);
+        assert_eq!(driver.buffer, listed());
+    }
 }
 
 #[test]

@@ -13,6 +13,7 @@ use crate::listing::listing;
 use crate::questions;
 use crate::reading::{self, Attribute};
 use crate::records::{CommandLine, Framebuffer, Kernel, Module, Platform};
+use crate::requests::default_line;
 use crate::stepping::Cursor;
 
 /// Makes the call of this number.
@@ -32,8 +33,11 @@ pub fn answer(buf: &[u8], call: u32, numbers: &[u64], strings: &[&[u8]]) -> Answ
         }
         COPY_MAP => copied(buf, &strings[0][..strings[0].len() / 8 * 8]),
         COPY_MAP_BYTES => copied(buf, strings[0]),
-        COMMAND_LINE => handed_back(buf, line(buf)),
-        COMMAND_LINE_PART => handed_back(buf, line(buf)).with(Vec::new()),
+        COMMAND_LINE => {
+            let text = default_line::command_line(buf, strings[0]);
+            Answer::new(Ok(0), &line(buf)).with(vec![text.to_vec()])
+        }
+        COMMAND_LINE_PART => Answer::new(Ok(0), &line(buf)),
         MODULE_HOLDING => Answer::new(questions::module_holding(buf, numbers[0]), &[]),
         LIST => list(buf, strings[0]),
         _ => Answer::new(Ok(listing(buf).len()), &[]),
@@ -91,15 +95,20 @@ fn part(attribute: &Attribute) -> Range<usize> {
     }
 }
 
-/// Where the command line's text lies; nowhere if there is none.
-fn line(buf: &[u8]) -> Range<usize> {
-    questions::command_line(buf).unwrap_or(0..0)
+/// Where a part starts, and how long it is.
+fn extent(part: &Range<usize>) -> [u64; 2] {
+    [part.start as u64, part.len() as u64]
+}
+
+/// Where the context's own line lies; "start and length are 0" if there is none, also where the
+/// board's text is handed back.
+fn line(buf: &[u8]) -> [u64; 2] {
+    extent(&questions::command_line(buf).unwrap_or(0..0))
 }
 
 /// A part: where it is, how long, and its bytes.
 fn handed_back(buf: &[u8], part: Range<usize>) -> Answer {
-    let place = [part.start as u64, part.len() as u64];
-    Answer::new(Ok(0), &place).with(vec![buf[part].to_vec()])
+    Answer::new(Ok(0), &extent(&part)).with(vec![buf[part].to_vec()])
 }
 
 fn copied(buf: &[u8], out: &[u8]) -> Answer {
@@ -150,7 +159,7 @@ impl Members {
         let bytes = attribute.bytes;
         let part = part(attribute);
         self.place = place(attribute);
-        self.part = [part.start as u64, part.len() as u64];
+        self.part = extent(&part);
         match attribute.kind {
             PLATFORM => Platform::parse(bytes).map(|record| self.fill_platform(&record)),
             KERNEL => Kernel::parse(bytes).map(|record| self.fill_kernel(&record)),

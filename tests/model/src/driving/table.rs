@@ -50,10 +50,10 @@ pub const LAST: u32 = HANDOVER_WRITE;
 pub fn arguments(call: u32) -> Option<(usize, usize)> {
     Some(match call {
         FIRST => (0, 0),
-        READ | COMMAND_LINE | COMMAND_LINE_PART | BEGIN | LISTING_LENGTH => (0, 1),
+        READ | COMMAND_LINE_PART | BEGIN | LISTING_LENGTH => (0, 1),
         ATTRIBUTE | ATTRIBUTE_START | ATTRIBUTE_PART | MODULE_HOLDING => (1, 1),
         STEP => (2, 1),
-        COPY_MAP | COPY_MAP_BYTES | LIST => (0, 2),
+        COPY_MAP | COPY_MAP_BYTES | COMMAND_LINE | LIST => (0, 2),
         ADD_PLATFORM | MEMBERS_ADD_PLATFORM => (9, 2),
         ADD_KERNEL | MEMBERS_ADD_KERNEL => (6, 4),
         ADD_MAP | MEMBERS_ADD_MAP | ADD_COMMAND_LINE | ADD_MODULES => (0, 2),

@@ -68,6 +68,13 @@ impl<'a> View<'a> {
         }
     }
 
+    /// The bytes of the first command line, up to a zero or to the attribute's end.
+    pub fn line(&self) -> Option<&'a [u8]> {
+        let line = self.headers.iter().find(|header| header.kind == 5)?;
+        let field = &self.bytes[line.start..][8..line.size];
+        field.split(|&byte| byte == 0).next()
+    }
+
     pub fn step(&self, rng: &mut Rng) -> Call {
         let header = self.any_header(rng);
         let (at, start, size) = match header {

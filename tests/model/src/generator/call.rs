@@ -1,5 +1,6 @@
 //! The thirteen calls toward C with their arguments. A published call of Rattle is another
-//! form of one of them, or asks for the same, but for the one that takes a list of modules
+//! form of one of them, or asks for the same (the command line with a board's text besides,
+//! [`crate::generator::lines`]), but for the one that takes a list of modules
 //! ([`crate::generator::module_lists`]) and those on a Handover payload
 //! ([`crate::generator::payloads`], [`crate::generator::writings`]).
 

@@ -1,14 +1,16 @@
 //! Seeded inputs, for the programs that compare the library and the listing with the model:
 //! numbers ([`rng`]), [`records`] and their attributes, lists of modules ([`module_lists`]),
 //! [`contexts`], good and bad, and calls ([`mod@call`]) with [`arguments`] that suit them, alone
-//! and in sequences ([`inputs`]); Handover [`payloads`], good and bad, and what is given to write
-//! one ([`writings`]). All of it comes from a seed and an index alone.
+//! and in sequences ([`inputs`]); boards' texts, and buffers that are asked for their command line
+//! ([`lines`]); Handover [`payloads`], good and bad, and what is given to write one
+//! ([`writings`]). All of it comes from a seed and an index alone.
 
 pub mod arguments;
 pub mod call;
 pub mod contexts;
 pub mod given;
 pub mod inputs;
+pub mod lines;
 pub mod module_lists;
 pub mod payloads;
 pub mod records;

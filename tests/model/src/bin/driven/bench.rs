@@ -195,7 +195,9 @@ impl Bench for Driven {
     }
 
     fn call(&mut self, call: &Call) -> Result<u64, Difference> {
-        let asked = spelling::spell(&mut self.rng, call, self.faults);
+        // The same as `bytes`, without borrowing the numbers that are drawn meanwhile.
+        let bytes = self.next.as_ref().unwrap_or(&self.model.buffer);
+        let asked = spelling::spell(&mut self.rng, call, bytes, self.faults);
         let fresh = !self.changed;
         let numbers = self.make(&asked)?.numbers;
         if let Call::Read = call {

@@ -6,7 +6,7 @@ use std::path::Path;
 use std::thread;
 
 use ultra_model::driving::frame::{put_frame, Head, Lent, FRAME_LIMIT, HEAD_LENGTH};
-use ultra_model::driving::table::{ADD_COMMAND_LINE, BEGIN, READ};
+use ultra_model::driving::table::{ADD_COMMAND_LINE, BEGIN, COMMAND_LINE, READ};
 use ultra_model::driving::{Driver, MALFORMED};
 use ultra_model::generator::contexts;
 use ultra_model::generator::rng::Rng;
@@ -126,7 +126,7 @@ fn too_long(read: &[u8], kept: &[u8]) -> Vec<Ending> {
 fn longest(kept: &[u8]) -> Ending {
     let text = vec![b'x'; FRAME_LIMIT - HEAD_LENGTH - 8];
     let mut frames = Vec::new();
-    for call in [ADD_COMMAND_LINE, MALFORMED] {
+    for call in [ADD_COMMAND_LINE, COMMAND_LINE, MALFORMED] {
         put_frame(&mut frames, call, &[], &[Lent::Kept, Lent::Bytes(&text)]);
     }
     ending("frames of just the most bytes", &[&frames, kept])

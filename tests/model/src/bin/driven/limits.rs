@@ -1,8 +1,8 @@
-//! The longest buffers, maps, outputs, lists, runs and frames that the program takes.
+//! The longest buffers, maps, outputs, texts, lists, runs and frames that the program takes.
 
 use ultra_model::driving::frame::{FRAME_LIMIT, HEAD_LENGTH};
 use ultra_model::driving::table::*;
-use ultra_model::generator::contexts;
+use ultra_model::generator::contexts::{self, Layout};
 use ultra_model::generator::inputs::Difference;
 use ultra_model::generator::module_lists;
 use ultra_model::generator::payloads;
@@ -31,13 +31,28 @@ pub fn run(bench: &mut Driven, rng: &mut Rng) -> Result<(), Difference> {
         let output = rng.bytes(8 * NUMBERS_LIMIT + more);
         bench.make_kept(&Asked::new(COPY_MAP, &[], &[&output]))?;
     }
-    for call in [ADD_COMMAND_LINE, COPY_MAP_BYTES, LIST] {
+    for call in [ADD_COMMAND_LINE, COPY_MAP_BYTES, COMMAND_LINE, LIST] {
         // With the kept buffer a frame has its head and two lengths besides the string.
         let string = rng.bytes(FRAME_LIMIT - HEAD_LENGTH - 8);
         bench.make_kept(&Asked::new(call, &[], &[&string]))?;
     }
+    longest_board(bench, rng)?;
     most_modules(bench, rng)?;
     longest_writing(bench, rng)
+}
+
+/// The longest board's text beside the longest buffer, which has a line, has none, or is refused.
+/// No answer is longer than this one.
+fn longest_board(bench: &mut Driven, rng: &mut Rng) -> Result<(), Difference> {
+    let board = rng.bytes(FRAME_LIMIT - HEAD_LENGTH - 8);
+    for types in [&[1, 2, 5][..], &[1, 2], &[]] {
+        let mut bytes = Layout::of(&contexts::good_records(rng, types)).bytes();
+        bytes.resize(BUFFER_LIMIT, 0xA5);
+        bench.load(bytes);
+        bench.make(&Asked::new(COMMAND_LINE_PART, &[], &[]))?;
+        bench.make_kept(&Asked::new(COMMAND_LINE, &[], &[&board]))?;
+    }
+    Ok(())
 }
 
 /// As many modules as a frame may give, with as many bytes left over as are no module.

@@ -3,15 +3,15 @@
 use ultra_model::driving::frame::{put_frame, Lent, FRAME_LIMIT, HEAD_LENGTH, KEPT};
 use ultra_model::driving::table::*;
 use ultra_model::driving::MALFORMED;
-use ultra_model::generator::inputs::Difference;
+use ultra_model::generator::inputs::{Bench, Difference};
 use ultra_model::generator::rng::Rng;
 
 use crate::bench::Driven;
-use crate::spelling::Asked;
+use crate::spelling::{self, Asked};
 use crate::tally::Shape;
 
 /// The ways in which a frame is malformed.
-const SHAPES: [Shape; 11] = [
+const SHAPES: [Shape; 12] = [
     Shape::UnknownCall,
     Shape::OtherNumbers,
     Shape::OtherStrings,
@@ -23,6 +23,7 @@ const SHAPES: [Shape; 11] = [
     Shape::MapTooLong,
     Shape::TooManyModules,
     Shape::TooManyParts,
+    Shape::NoBoard,
 ];
 
 /// Malformed frames, and after each a call that shows the buffer.
@@ -35,8 +36,11 @@ pub fn run(bench: &mut Driven, rng: &mut Rng) -> Result<(), Difference> {
             return Err(Difference("the model takes a malformed frame".into()));
         }
         bench.tally.shape(shape as usize);
-        let shows = rng.pick(&[READ, LISTING_LENGTH, COMMAND_LINE, AGENT_NAME]);
-        bench.make_kept(&Asked::new(shows, &[], &[]))?;
+        let shows = match rng.pick(&[READ, LISTING_LENGTH, COMMAND_LINE, AGENT_NAME]) {
+            COMMAND_LINE => spelling::line(rng, bench.bytes()),
+            call => Asked::new(call, &[], &[]),
+        };
+        bench.make_kept(&shows)?;
     }
     Ok(())
 }
@@ -79,6 +83,8 @@ fn make(rng: &mut Rng, shape: Shape) -> Vec<u8> {
         Shape::BufferTooLong => buffer_too_long(rng),
         Shape::TooManyModules => too_many_modules(rng),
         Shape::TooManyParts => too_many_parts(rng),
+        // As it was asked for before boards had a text.
+        Shape::NoBoard => frame(rng, COMMAND_LINE, 0, 1),
         _ => map_too_long(rng),
     }
 }
@@ -118,7 +124,14 @@ fn told(mut frame: Vec<u8>) -> Vec<u8> {
 
 /// The string after the buffer says that it is longer than what follows, or that it is kept.
 fn string_past_the_end(rng: &mut Rng) -> Vec<u8> {
-    let call = rng.pick(&[COPY_MAP_BYTES, ADD_COMMAND_LINE, ADD_MAP, LIST, ADD_MODULES]);
+    let call = rng.pick(&[
+        COPY_MAP_BYTES,
+        COMMAND_LINE,
+        ADD_COMMAND_LINE,
+        ADD_MAP,
+        LIST,
+        ADD_MODULES,
+    ]);
     let length = 8 * rng.below(5);
     let (buffer, string) = (rng.bytes(20), rng.bytes(length));
     let mut frame = Vec::new();
@@ -151,10 +164,14 @@ fn counts_that_wrap(rng: &mut Rng, call: u32) -> Vec<u8> {
 
 fn buffer_too_long(rng: &mut Rng) -> Vec<u8> {
     let call = rng.pick(&[READ, BEGIN, COMMAND_LINE, LISTING_LENGTH]);
-    let most = FRAME_LIMIT - HEAD_LENGTH - 4;
+    // Of these the command line alone has a second string.
+    let boards = usize::from(call == COMMAND_LINE);
+    let most = FRAME_LIMIT - HEAD_LENGTH - 4 - 4 * boards;
     let length = rng.pick(&[BUFFER_LIMIT + 1, BUFFER_LIMIT + 8, 200_000, most]);
+    let buffer = vec![1; length];
+    let strings = [Lent::Bytes(&buffer), Lent::Bytes(&[])];
     let mut frame = Vec::new();
-    put_frame(&mut frame, call, &[], &[Lent::Bytes(&vec![1; length])]);
+    put_frame(&mut frame, call, &[], &strings[..1 + boards]);
     frame
 }
 

@@ -16,7 +16,7 @@ use crate::bench::Driven;
 use crate::endings::Otherwise;
 use crate::link::{Found, Link};
 use crate::tally::{gaps, ALL, ROWS};
-use crate::{again, endings, limits, malformed, payloads, several};
+use crate::{again, endings, limits, lines, malformed, payloads, several};
 
 /// How many programs run at a time.
 const PROGRAMS: u64 = 2;
@@ -25,6 +25,7 @@ const FOLDER: &str = "target/driven";
 /// Set apart from the numbers that make the input and its calls.
 const SALT: u64 = 0x4D4F_5245;
 const PAYLOAD_SALT: u64 = 0x4841_4E44;
+const LINE_SALT: u64 = 0x4C49_4E45;
 /// Every so many inputs there are malformed frames, and the longest frames.
 const MALFORMED_EVERY: u64 = 64;
 const LIMITS_EVERY: u64 = 4_096;
@@ -49,6 +50,7 @@ fn input(bench: &mut Driven, seed: u64, index: u64) -> Result<(), Difference> {
         limits::run(bench, rng)?;
     }
     several::run(bench, rng)?;
+    lines::run(bench, &mut Rng::for_input(seed ^ LINE_SALT, index))?;
     payloads::run(bench, &mut Rng::for_input(seed ^ PAYLOAD_SALT, index))
 }
 

@@ -3,6 +3,7 @@
 use ultra_model::driving::table::*;
 use ultra_model::format::{MODULE_NAME_WIDTH, NAME_WIDTH, PATH_WIDTH};
 use ultra_model::generator::call::Call;
+use ultra_model::generator::lines;
 use ultra_model::generator::records::{Framebuffer, Kernel, Module, Platform};
 use ultra_model::generator::rng::Rng;
 
@@ -24,9 +25,9 @@ impl Asked {
     }
 }
 
-/// One of the forms that the call has. With `faults`, a record sometimes lacks a member, or has
-/// bytes after a zero.
-pub fn spell(rng: &mut Rng, call: &Call, faults: bool) -> Asked {
+/// One of the forms that the call has, on this buffer. With `faults`, a record sometimes lacks a
+/// member, or has bytes after a zero.
+pub fn spell(rng: &mut Rng, call: &Call, buf: &[u8], faults: bool) -> Asked {
     match call {
         Call::Read => Asked::new(READ, &[], &[]),
         Call::Step { index, offset } => {
@@ -48,10 +49,17 @@ pub fn spell(rng: &mut Rng, call: &Call, faults: bool) -> Asked {
             Asked::new(form, &[*index], &[])
         }
         Call::CopyMap { out } => {
-            let form = rng.pick(&[COPY_MAP, COPY_MAP_BYTES]);
+            // An output of more numbers than a frame may give is one of bytes.
+            let form = match out.bytes.len() / 8 > NUMBERS_LIMIT {
+                true => COPY_MAP_BYTES,
+                false => rng.pick(&[COPY_MAP, COPY_MAP_BYTES]),
+            };
             Asked::new(form, &[], &[&out.bytes])
         }
-        Call::CommandLine => Asked::new(rng.pick(&[COMMAND_LINE, COMMAND_LINE_PART]), &[], &[]),
+        Call::CommandLine => match rng.chance(50) {
+            true => line(rng, buf),
+            false => Asked::new(COMMAND_LINE_PART, &[], &[]),
+        },
         Call::ModuleHolding { address } => Asked::new(MODULE_HOLDING, &[*address], &[]),
     }
 }
@@ -198,6 +206,12 @@ fn framebuffer(rng: &mut Rng, record: &Framebuffer) -> Asked {
         record.address,
     ];
     Asked::new(ADD_FRAMEBUFFER, &numbers, &[])
+}
+
+/// The command line of this buffer, with a board's text.
+pub fn line(rng: &mut Rng, buf: &[u8]) -> Asked {
+    let board = lines::board(rng, buf);
+    Asked::new(COMMAND_LINE, &[], &[&board])
 }
 
 /// A listing into an output of about its length.

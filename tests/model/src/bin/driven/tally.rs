@@ -1,5 +1,6 @@
 //! What the published calls can answer, and the shapes that have to be met.
 
+mod lines;
 pub mod payloads;
 mod several;
 pub mod writings;
@@ -173,6 +174,7 @@ ultra_model::shapes! {
     MapTooLong: "malformed: a map or output of more than 9,000 numbers",
     TooManyModules: "malformed: more than 16 modules",
     TooManyParts: "malformed: parts of more than 9,000 numbers",
+    NoBoard: "malformed: a command line asked for without a board's text",
 }
 
 /// A shape of one of these files, by its place among the names of all.
@@ -204,6 +206,13 @@ impl Counted for modules::Shape {
     }
 }
 
+impl Counted for lines::Shape {
+    fn place(self) -> usize {
+        let before = [SHAPES, payloads::SHAPES, writings::SHAPES, modules::SHAPES];
+        before.map(<[_]>::len).iter().sum::<usize>() + self as usize
+    }
+}
+
 /// A shape of a map, by its place among the names of those.
 #[derive(Clone, Copy)]
 struct OfMap(usize);
@@ -222,12 +231,14 @@ const FILES: &[&[&str]] = &[
     payloads::SHAPES,
     writings::SHAPES,
     modules::SHAPES,
+    lines::SHAPES,
     maps::SHAPES,
 ];
 const COUNT: usize = SHAPES.len()
     + payloads::SHAPES.len()
     + writings::SHAPES.len()
     + modules::SHAPES.len()
+    + lines::SHAPES.len()
     + maps::SHAPES.len();
 
 /// A call that both sides made.
@@ -296,7 +307,10 @@ pub fn count(tally: &mut Tally, made: &Made) {
         ),
         ATTRIBUTE_PART => part(shapes, made),
         COPY_MAP | COPY_MAP_BYTES => copied(shapes, made),
-        COMMAND_LINE => line(shapes, made),
+        COMMAND_LINE => {
+            line(shapes, made);
+            lines::count(shapes, made);
+        }
         MODULE_HOLDING if made.number() == 0 => holding(shapes, made),
         ADD_PLATFORM | MEMBERS_ADD_PLATFORM => platform(shapes, made),
         ADD_KERNEL => kernel(shapes, made),
@@ -526,13 +540,16 @@ fn part(shapes: &mut Shapes, made: &Made) {
     once(shapes, made, Shape::PartOnce);
 }
 
+/// What is handed back is a part of the buffer only where there is a line.
 fn line(shapes: &mut Shapes, made: &Made) {
-    shapes.met(match made.answer.numbers[2..4] {
-        [0, _] => Shape::NoLine,
-        [_, 0] => Shape::EmptyLine,
-        _ => Shape::Line,
-    });
-    once(shapes, made, Shape::PartOnce);
+    match made.answer.numbers[2..4] {
+        [0, _] => shapes.met(Shape::NoLine),
+        [_, 0] => shapes.met(Shape::EmptyLine),
+        _ => {
+            shapes.met(Shape::Line);
+            once(shapes, made, Shape::PartOnce);
+        }
+    }
 }
 
 /// What was never met, and whether too few parts and strings show their place.
