@@ -44,6 +44,19 @@ EQUALITY = "mathlib.Core.Path._≡_"
 SLICES = {"PartOf": "lentPart", "LineOrBoard": "lentLine"}
 SLICE_ORIGINS = {"PartOf": "Rattle.lent_buffers.specs.LentParts.PartOf",
                  "LineOrBoard": "Rattle.ultra_questions.specs.CommandLineQuestion.LineOrBoard"}
+# What they say: the memory, and not the bytes alone.
+SLICE_TEXTS = {
+    "crates/lent_buffers/specs/LentParts.antt": {
+        "PartOf": ["""pub record PartOf (r s : RefT (List ℕ)) (p : Part) : Type 0 where
+  pub block : r .ptr .0 ≡ s .ptr .0
+  pub offset : r .ptr .1 ≡ p .start + s .ptr .1
+  pub within : p .start + p .length ≤ length (s .now)
+  pub has : r .now ≡ bytesAt (s .now) (p .start) (p .length)"""],
+        "WholeOf": ["WholeOf r s = (r .ptr ≡ s .ptr) × (r .now ≡ s .now)"]},
+    "crates/ultra_questions/specs/CommandLineQuestion.antt": {
+        "LineOrBoard": ["LineOrBoard lent s board none = WholeOf lent board",
+                        "LineOrBoard lent s board (found o a) = PartOf lent s (bodyPart o (a .body))"]},
+}
 # Public functions, of crates that publish calls, that only this repository calls.
 INNER = {"ultra_reading::next_place_check", "ultra_reading::used_length"}
 # What stands around the definition that the page names.
@@ -575,6 +588,15 @@ def handing_problems(*specs):
             yield f"demand_2: `{'`, `'.join(found)}`, expected `{'`, `'.join(wanted)}`"
 
 
+def slice_problems(root):
+    """Relations that a slice is held by, where they say something else than is relied on."""
+    for file, texts in SLICE_TEXTS.items():
+        for name, wanted in texts.items():
+            found = re.findall(rf"^pub record {name} .*(?:\n  .*)*|^{name} .*", read(root / file), re.M)
+            if found != wanted:
+                yield f"{file}: `{name}` is `{' / '.join(found)}`, expected `{' / '.join(wanted)}`"
+
+
 def gathered_problems(stands, additions, members):
     """Constructors of what is added that no call gives."""
     given = {gathering(case, path.split("::")[-1]) for case in stands for path in case.calls}
@@ -619,6 +641,7 @@ def all_problems(root, calls, on_payloads):
     yield from (f"{path}: in {PAGE} {paths.count(path)} times, expected once" for path in sorted(set(paths)) if paths.count(path) > 1)
     yield from case_problems(stands, paths)
     yield from handing_problems(spec, spec_from_c)
+    yield from slice_problems(root)
     yield from gathered_problems(stands, cases(spec_of(root, ADDITIONS), "Addition"), cases(spec, "Members"))
     yield from (f"{name}, {file.relative_to(root)}: exported, expected in {PAGE}" for name, file in exported(root).items() if name not in paths)
     yield from unpublished_problems(root, paths)

@@ -28,6 +28,7 @@ ASKED = "crates/asking/specs/Asking.antt"
 CURSOR = "crates/asking/src/cursor.rt"
 PAYING = "crates/paying/src/lib.rt"
 READS, WRITES = published.PROMISES_ON_PAYLOADS
+PARTS, LINES = published.SLICE_TEXTS
 
 FILES = {
     PAGE: """# Library
@@ -271,6 +272,23 @@ PartHandedBack lent s i = PartOf lent s (looked (s .now) i .part)
 abbrev pub LineHandedBack : RefT (List ℕ) → RefT (List ℕ) → RefT (List ℕ) → Type 0
 LineHandedBack lent s board = LineOrBoard lent s board (lineFound (s .now))
 """,
+    PARTS: """abbrev pub noPart : Part
+noPart = part 0 0
+
+-- that part of s
+pub record PartOf (r s : RefT (List ℕ)) (p : Part) : Type 0 where
+  pub block : r .ptr .0 ≡ s .ptr .0
+  pub offset : r .ptr .1 ≡ p .start + s .ptr .1
+  pub within : p .start + p .length ≤ length (s .now)
+  pub has : r .now ≡ bytesAt (s .now) (p .start) (p .length)
+
+abbrev pub WholeOf : RefT (List ℕ) → RefT (List ℕ) → Type 0
+WholeOf r s = (r .ptr ≡ s .ptr) × (r .now ≡ s .now)
+""",
+    LINES: """abbrev pub LineOrBoard : RefT (List ℕ) → RefT (List ℕ) → RefT (List ℕ) → Found → Type 0
+LineOrBoard lent s board none = WholeOf lent board
+LineOrBoard lent s board (found o a) = PartOf lent s (bodyPart o (a .body))
+""",
     ASKING: """mod cursor;
 
 ghost use mathlib.Core.Path.{_≡_};
@@ -451,6 +469,17 @@ class Contracts(Case):
                   "expected `LineHandedBack r (buf .entry) (board .entry)`")
         self.change(ASKING, "PartHandedBack r (buf .entry) index", "PartHandedBack r (buf .entry)")
         self.told(f"asking::part, {ASKING}: contract has `PartHandedBack r (buf .entry)`, expected `PartHandedBack r (buf .entry) index`")
+
+    def test_a_relation_that_says_less(self):
+        part, whole = (text[0] for text in published.SLICE_TEXTS[PARTS].values())
+        self.change(PARTS, "(r .ptr ≡ s .ptr) × (r .now ≡ s .now)", "r .now ≡ s .now")
+        self.told(f"{PARTS}: `WholeOf` is `WholeOf r s = r .now ≡ s .now`, expected `{whole}`")
+        self.change(PARTS, "  pub block : r .ptr .0 ≡ s .ptr .0\n", "")
+        less = part.replace("  pub block : r .ptr .0 ≡ s .ptr .0\n", "")
+        self.told(f"{PARTS}: `PartOf` is `{less}`, expected `{part}`")
+        none, found = published.SLICE_TEXTS[LINES]["LineOrBoard"]
+        self.change(LINES, "none = WholeOf lent board", "none = WholeOf lent s")
+        self.told(f"{LINES}: `LineOrBoard` is `LineOrBoard lent s board none = WholeOf lent s / {found}`, expected `{none} / {found}`")
 
     def test_another_relation(self):
         self.change(ASKED, "Rattle.lent_buffers.specs.LentParts.{PartOf}", "lib.Weak.{PartOf}")

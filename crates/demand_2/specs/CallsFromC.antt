@@ -98,7 +98,7 @@ abbrev pub asked : CallFromC → Call
 asked (writeFromC w) = write (writeAsked w)
 asked (askFromC q) = ask (questionAsked q)
 
--- its reply as one number; records and slices do not cross, and several modules have no call from C
+-- its reply as one number; records, slices and the board's text do not cross, and several modules have no call from C
 abbrev pub replyCrossed : Reply → Reply
 replyCrossed (answer a) = number (answerCrossed a)
 replyCrossed (several s) = several s

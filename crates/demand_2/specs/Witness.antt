@@ -4,12 +4,13 @@
 -- second beginning among them, build the same 640 bytes; the widest arguments are of their types; two attributes are enough; a context
 -- that another writer began is extended. Each is proved from the demand itself, in proofs/Witness.antt: `witnessed`.
 -- A reader has to believe this file.
-use Prim.Native.Nat.{ℕ, _≤_, _<_}
+use Prim.Native.Nat.{ℕ, _+_, _≤_, _<_}
 use mathlib.Core.Logic.{_⊎_}
 use mathlib.Core.Bool.{true, false}
 use mathlib.Core.Path.{_≡_}
 use mathlib.Core.List.{List, [], _∷_, _++_}
 use lib.ListN.{length, take, getD, replicate}
+use denote.Ref.{RefT}
 use Rattle.refusals.specs.Refusals.{SHORT, FORM, VALUE, ROOM}
 use Rattle.refusals.specs.Answers.{refused, numberOf}
 use Rattle.ultra_format.specs.Decoding.{contextOf}
@@ -31,6 +32,7 @@ use Rattle.ultra_building.specs.Building.{begun}
 use Rattle.ultra_adding.specs.Adding.{added}
 use Rattle.ultra_modules.specs.Modules.{answerAndCount, modulesAdded}
 use Rattle.ultra_acceptance.specs.Acceptance.{HoldsContext}
+use Rattle.ultra_questions.specs.CommandLineQuestion.{LineHandedBack}
 use Rattle.ultra_question_statements.specs.Witness.{everyLine}
 use Rattle.demand_3.specs.Witness.{everyPlatformRecord, everyKernelRecord, everyModuleRecord, everyFramebufferRecord, everyEntries}
 use Rattle.ultra_acceptance.specs.Steps.{StepsThrough}
@@ -319,6 +321,11 @@ pub record BoardTexts : Type 0 where
   -- no line; and one attribute, which is refused
   pub noLine : (b board : List ℕ) → length b ≡ 432 → runAny (askingLine board) (bufferNow b (adds two)) .0 ≡ boardText board
   pub unread : (b board : List ℕ) → length b ≡ 96 → runAny (askingLine board) (bufferNow b (adds one)) .0 ≡ boardText board
+  -- the slices themselves, by the contract: the empty line in the buffer's memory, and the board's own memory
+  pub emptySlice : (b : List ℕ) (handed s board : RefT (List ℕ)) → length b ≡ 448 → s .now ≡ bufferNow b (adds (twoAndLine []))
+      → LineHandedBack handed s board → (handed .ptr .0 ≡ s .ptr .0) × (handed .ptr .1 ≡ 440 + s .ptr .1) × (handed .now ≡ [])
+  pub boardSlice : (b : List ℕ) (handed s board : RefT (List ℕ)) → length b ≡ 432 → s .now ≡ bufferNow b (adds two)
+      → LineHandedBack handed s board → (handed .ptr .0 ≡ board .ptr .0) × (handed .ptr .1 ≡ board .ptr .1) × (handed .now ≡ board .now)
 
 -- a call from C that is refused changes nothing, in any buffer; and an add of members that changes a buffer is the add of a record
 pub record FromCAndMembers : Type 0 where

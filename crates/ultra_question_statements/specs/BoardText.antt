@@ -1,6 +1,6 @@
--- Statement: what request R-5 changed of the command line question, of every buffer: with an empty text of the board nothing, and where
--- there is a line nothing with any. Of which buffers each text is handed back: `line` of EveryBuffer. Proved in proofs/BoardText.antt:
--- `board-text`.
+-- Statement: what request R-5 changed of the command line question, of every buffer: with an empty text of the board no byte, and where
+-- there is a line neither a byte nor the memory, with any. Of which buffers each text is handed back: `line` of EveryBuffer. Proved in
+-- proofs/BoardText.antt: `board-text`.
 -- A reader has to believe this file.
 use Prim.Native.Nat.{ℕ}
 use mathlib.Core.Path.{_≡_}

@@ -1,13 +1,16 @@
 -- The statements on the questions do not speak of nothing: what they say, in digits, of a buffer that holds a context with every type of
--- attribute (Examples, of crate ultra_format), on both sides of each limit. Proved in proofs/Witness.antt, `witnessed`, from them.
+-- attribute (Examples, of crate ultra_format), on both sides of each limit; and of the command line of any context. Proved in
+-- proofs/Witness.antt, `witnessed`, from them.
 -- A reader has to believe this file.
 use Prim.Native.Nat.{ℕ, _+_, _<_}
 use mathlib.Core.Path.{_≡_}
+use mathlib.Core.Logic.{_⊎_}
 use mathlib.Core.List.{List, [], _∷_}
 use lib.ListN.{length, getD}
 use denote.Ref.{RefT}
 use Rattle.words.specs.Rounding.{roundedUp}
 use Rattle.refusals.specs.Answers.{refused}
+use Rattle.ultra_format.specs.Contexts.{Body.commandLine, Context, count, bodyAt, typeAt, startIn}
 use Rattle.ultra_format.specs.Examples.{everyType, everyTypeBytes}
 use Rattle.ultra_format.specs.MemberRules.{Ends}
 use Rattle.refusals.specs.declared.Answer.the-variants.{Done}
@@ -17,6 +20,8 @@ use Rattle.ultra_questions.specs.AttributeQuestion.{attributeStart}
 use Rattle.ultra_map_question.specs.MapQuestion.{mapCopied, mapCopiedBytes}
 use Rattle.ultra_questions.specs.CommandLineQuestion.{commandLinePart, LineHandedBack}
 use Rattle.ultra_questions.specs.ModuleQuestion.{moduleHolding}
+use Rattle.ultra_crossing.specs.Crossing.{partCrossed}
+use Rattle.ultra_question_statements.specs.BoardText.{HandedBackBefore}
 
 -- the text of its command line
 abbrev pub everyLine : List ℕ
@@ -61,3 +66,23 @@ pub record Witnessed : Type 0 where
   pub boardSlice : (board : RefT (List ℕ)) → LineHandedBack board (lentAt 4096 []) board
   pub anyBoard : (lent s board : RefT (List ℕ)) → s .now ≡ [] → LineHandedBack lent s board
       → (lent .ptr .0 ≡ board .ptr .0) × (lent .ptr .1 ≡ board .ptr .1) × (lent .now ≡ board .now)
+  -- what request R-5 changed, of these two buffers, wherever they and the board's text are lent
+  pub noDifference : (lent before s board : RefT (List ℕ)) → (s .now ≡ everyTypeBytes) ⊎ (s .now ≡ []) → LineHandedBack lent s board
+      → HandedBackBefore before s → board .now ≡ [] → lent .now ≡ before .now
+  pub sameLine : (lent before s board : RefT (List ℕ)) → s .now ≡ everyTypeBytes → LineHandedBack lent s board → HandedBackBefore before s
+      → (lent .ptr .0 ≡ before .ptr .0) × (lent .ptr .1 ≡ before .ptr .1) × (lent .now ≡ before .now)
+  pub settled : (lent other s board : RefT (List ℕ)) → (s .now ≡ everyTypeBytes) ⊎ (s .now ≡ []) → LineHandedBack lent s board
+      → LineHandedBack other s board → (lent .ptr .0 ≡ other .ptr .0) × (lent .ptr .1 ≡ other .ptr .1) × (lent .now ≡ other .now)
+  pub handedBefore : HandedBackBefore (lentAt 4712 everyLine) (lentAt 4096 everyTypeBytes) × HandedBackBefore (lentAt 4096 []) (lentAt 4096 [])
+  -- of any context: its line, an empty one too, lies at its own place in the buffer's memory, whatever the board's text is; without one the
+  -- board's memory is handed back, from its first byte on
+  pub heldLine : (lent s board : RefT (List ℕ)) (c : Context) (i : ℕ) (t : List ℕ) → ((j : ℕ) → getD (s .now) j 0 < 256) → HoldsContext 2 (s .now) c
+      → i < count c → bodyAt c i ≡ commandLine t → LineHandedBack lent s board
+      → (lent .ptr .0 ≡ s .ptr .0) × (lent .ptr .1 ≡ startIn (c .attributes) i + 8 + s .ptr .1) × (lent .now ≡ t)
+  pub heldNone : (lent s board : RefT (List ℕ)) (c : Context) → ((j : ℕ) → getD (s .now) j 0 < 256) → HoldsContext 2 (s .now) c
+      → ((i : ℕ) → i < count c → typeAt c i ≡ 5 → ⊥) → LineHandedBack lent s board
+      → (lent .ptr .0 ≡ board .ptr .0) × (lent .ptr .1 ≡ board .ptr .1) × (lent .now ≡ board .now)
+  -- toward C: no bytes have no line, and where the number is 0 a list has none
+  pub noNumber : partCrossed (commandLinePart []) ≡ 0
+  pub heldNumber : (b : List ℕ) (c : Context) (i : ℕ) (t : List ℕ) → ((j : ℕ) → getD b j 0 < 256) → HoldsContext 2 b c → i < count c
+      → bodyAt c i ≡ commandLine t → partCrossed (commandLinePart b) ≡ 0 → ⊥

@@ -30,8 +30,5 @@ pub fn command_line<'a>(buf: &'a [u8], board: &'a [u8]) -> &'a [u8]
     let part = command_line_part(buf);
     let line = lent_buffers::slice(buf, part);
     // A line never starts at 0, an empty one neither.
-    if part.start == 0 {
-        return board;
-    }
-    line
+    if part.start == 0 { board } else { line }
 }
