@@ -92,7 +92,7 @@ static uint64_t print_holder(const uint8_t *buf, size_t len, uint64_t address)
     return answer;
 }
 
-/* The one call without a refusal: 0 where there is no command line, and then the board's text counts. An empty one is not 0. */
+/* The one call without a refusal: 0 where there is no command line, and then the board's text counts. An empty line is not 0. */
 static void print_command_line(const uint8_t *buf, size_t len)
 {
     uint64_t line = ultra_command_line(buf, len);

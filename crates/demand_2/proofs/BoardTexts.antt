@@ -1,7 +1,7 @@
 -- The command line after a platform and a kernel, from the demand: with a line, with an empty one, with none, and of one attribute, which
 -- is refused. The model's list and answers are found by computation.
 use Prim.Native.Nat.{ℕ, _+_, _≤_}
-use mathlib.Core.Path.{_≡_, refl, ap, subst}
+use mathlib.Core.Path.{_≡_, refl, subst}
 use mathlib.Core.List.{List, [], _∷_}
 use native.Mathlib.Omega.{arith}
 use lib.ListN.{length}
@@ -19,6 +19,7 @@ use Rattle.ultra_questions.specs.Parts.{bodyPart, partBytes}
 use Rattle.ultra_questions.specs.CommandLineQuestion.{LineHandedBack}
 use Rattle.ultra_question_statements.specs.ByContext.{ByContext}
 use Rattle.ultra_question_statements.proofs.ByContext.{questions-by-context}
+use Rattle.ultra_question_statements.proofs.Witness.{pointers}
 use Rattle.ultra_appending.specs.Appending.{appendCheck}
 use Rattle.demand_2.specs.Calls.{Question.askLine, Call.ask, Reply, Reply.lent, Reply.boardText}
 use Rattle.demand_2.specs.CallsFromC.{inRattle, runAny}
@@ -73,8 +74,7 @@ module _ (w : AllTyped (adds sixAdditions)) where
       → (handed .ptr .0 ≡ board .ptr .0) × (handed .ptr .1 ≡ board .ptr .1) × (handed .now ≡ board .now)
   unfolding attributesGiven bodyGiven writtenSize entriesGiven total first
   board-slice b handed s board e q h =
-      let w = held b 432 two (omega arith) (omega arith) (typed-two w) (listed [] .2 .0) (omega arith) .slice handed s board q h .0 in
-      (ap (λ (p : ℕ × ℕ). p .0) (w .0), ap (λ (p : ℕ × ℕ). p .1) (w .0), w .1)
+      pointers handed board (held b 432 two (omega arith) (omega arith) (typed-two w) (listed [] .2 .0) (omega arith) .slice handed s board q h .0)
 
   pub board-texts : BoardTexts
   board-texts =

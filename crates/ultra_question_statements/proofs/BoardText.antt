@@ -1,14 +1,19 @@
 -- What request R-5 changed: by whether a line is found.
 use Prim.Native.Nat.{ℕ}
-use mathlib.Core.Path.{_≡_, refl, sym, ap₂, _∙_}
+use mathlib.Core.Path.{_≡_, refl, sym, ap, ap₂, _∙_, subst}
 use mathlib.Core.List.{List, []}
 use denote.Ref.{RefT}
 use Rattle.byte_layout.specs.Stored.{bytesAt}
 use Rattle.lent_buffers.specs.declared.Part.{Part}
-use Rattle.lent_buffers.specs.LentParts.{PartOf, WholeOf}
+use Rattle.lent_buffers.specs.LentParts.{noPart, PartOf, WholeOf}
+use Rattle.ultra_format.specs.Decoding.{contextOf}
+use Rattle.refusals.specs.declared.Answer.{Answer}
+use Rattle.refusals.specs.declared.Answer.the-variants.{Done, Refused}
+use Rattle.ultra_reading.specs.Reading.{usedLength}
+use Rattle.ultra_locating.specs.Passing.{ifAccepted}
 use Rattle.ultra_locating.specs.Searching.{Found, Found.none, Found.found}
-use Rattle.ultra_questions.specs.CommandLineQuestion.{foundPart, lineFound, commandLinePart, LineOrBoard}
-use Rattle.ultra_question_statements.specs.BoardText.{BoardText}
+use Rattle.ultra_questions.specs.CommandLineQuestion.{lineIn, foundPart, commandLineIn, lineFound, commandLinePart, LineOrBoard}
+use Rattle.ultra_question_statements.specs.BoardText.{partBefore, HandedBackBefore, BoardText}
 
 -- two slices that are the same part of a text
 same-part : (lent other s : RefT (List ℕ)) (p : Part) → PartOf lent s p → PartOf other s p → WholeOf lent other
@@ -29,11 +34,24 @@ module _ (lent other s board : RefT (List ℕ)) where
   settled none w q = (w .0 ∙ sym (q .0), w .1 ∙ sym (q .1))
   settled (found o a) w q = same-part lent other s _ w q
 
+-- the part is the one of before
+unmoved : (b : List ℕ) → foundPart (lineFound b) ≡ partBefore b
+unfolding lineFound
+unmoved b = go (usedLength 2 b)
+  where
+    go : (u : Answer) → foundPart (ifAccepted (λ r. none) (lineIn (contextOf b)) u) ≡ ifAccepted (λ r. noPart) (commandLineIn (contextOf b)) u
+    go (Done n) = refl
+    go (Refused r) = refl
+
+was-handed : (before s : RefT (List ℕ)) → HandedBackBefore before s → PartOf before s (foundPart (lineFound (s .now)))
+was-handed before s q = subst (PartOf before s) (sym (unmoved (s .now))) q
+
 pub board-text : BoardText
 unfolding commandLinePart
 board-text =
     record {
-      noDifference = λ lent before s board w q e. no-difference lent before s board (lineFound (s .now)) w q e;
-      sameLine = λ lent before s board w q n. same-line lent before s board (lineFound (s .now)) w q n;
+      unmoved = unmoved;
+      noDifference = λ lent before s board w q e. no-difference lent before s board (lineFound (s .now)) w (was-handed before s q) e;
+      sameLine = λ lent before s board w q n. same-line lent before s board (lineFound (s .now)) w (was-handed before s q) (λ z. n (ap (λ (p : Part). p .start) (sym (unmoved (s .now))) ∙ z));
       settled = λ lent other s board w q. settled lent other s board (lineFound (s .now)) w q;
     }

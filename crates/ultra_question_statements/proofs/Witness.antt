@@ -65,7 +65,7 @@ unfolding total
 line = by-index .line 4 _ (omega arith) refl .0
 
 -- all of a text, by its pointers
-pointers : (lent s : RefT (List ℕ)) → WholeOf lent s → (lent .ptr .0 ≡ s .ptr .0) × (lent .ptr .1 ≡ s .ptr .1) × (lent .now ≡ s .now)
+pub pointers : (lent s : RefT (List ℕ)) → WholeOf lent s → (lent .ptr .0 ≡ s .ptr .0) × (lent .ptr .1 ≡ s .ptr .1) × (lent .now ≡ s .now)
 pointers lent s w = (ap (λ (p : ℕ × ℕ). p .0) (w .0), ap (λ (p : ℕ × ℕ). p .1) (w .0), w .1)
 
 -- what is found of the command line, in the context and of no bytes
@@ -92,11 +92,11 @@ board-slice = refusals-pass-on [] _ none-read .noLine
 
 before-line : HandedBackBefore (lentAt 4712 everyLine) (lentAt 4096 everyTypeBytes)
 unfolding bytesAt
-before-line = rw line (record { block = refl; offset = refl; within = omega arith; has = refl })
+before-line = rw (← (board-text .unmoved everyTypeBytes), line) (record { block = refl; offset = refl; within = omega arith; has = refl })
 
 before-none : HandedBackBefore (lentAt 4096 []) (lentAt 4096 [])
 unfolding bytesAt
-before-none = rw (refusals-pass-on [] _ none-read .line) (record { block = refl; offset = refl; within = omega arith; has = refl })
+before-none = rw (← (board-text .unmoved []), refusals-pass-on [] _ none-read .line) (record { block = refl; offset = refl; within = omega arith; has = refl })
 
 -- ---- of any context, from the statement on every buffer
 no-byte : (j : ℕ) → getD [] j 0 < 256
@@ -170,7 +170,7 @@ witnessed =
       boardSlice = λ board. subst (LineOrBoard board (lentAt 4096 []) board) (sym (refusals-pass-on [] _ none-read .found)) (refl, refl);
       anyBoard = λ lent s board e h. pointers lent board (board-slice lent s board e h);
       noDifference = λ lent before s board x h g e. board-text .noDifference lent before s board h g e;
-      sameLine = λ lent before s board e h g. pointers lent before (board-text .sameLine lent before s board h g (λ z. omega (arith, z, ap (λ (l : List ℕ). commandLinePart l .start) e, ap (λ (p : Part). p .start) line)));
+      sameLine = λ lent before s board e h g. pointers lent before (board-text .sameLine lent before s board h g (λ z. omega (arith, z, ap (λ (p : Part). p .start) (board-text .unmoved (s .now)), ap (λ (l : List ℕ). commandLinePart l .start) e, ap (λ (p : Part). p .start) line)));
       handedBefore = (before-line, before-none);
       heldLine = λ lent s board c i t y h k e g. held-line lent s board y c h g i t k e;
       heldNone = λ lent s board c y h n g. pointers lent board (held-none lent s board y c h g n);
