@@ -1,4 +1,6 @@
 // Addresses and ranges of them, judged in whole numbers without forming a sum that could wrap.
+#![tactic(auto)]
+
 ghost use Rattle.std.specs.Prelude.{◌≡◌};
 ghost use Rattle.address_ranges.specs.Ranges.{page_aligned, range_fits, ends_by, pages_cover};
 

@@ -1,4 +1,6 @@
 // Texts and raw bytes in fields of a byte layout. The layouts themselves are definitions: specs/Fields.antt and specs/Stored.antt.
+#![tactic(auto)]
+
 ghost use Rattle.std.specs.Prelude.{◌≡◌, [], ◌+◌, ◌≤◌, length};
 ghost use Rattle.words.specs.Words.{replaced};
 ghost use Rattle.byte_layout.specs.Fields.{padded};

@@ -1,5 +1,7 @@
 // Makes the published calls that a stream of frames on standard input asks for, and writes a frame for each answer to standard output.
 // README.md beside src/ describes the frames and the calls.
+#![tactic(auto)]
+
 mod stream;
 
 fn main() {

@@ -40,7 +40,7 @@ fn malformed(out: &mut [u8]) -> bool {
 }
 
 // What is left of a call that was answered: how long the buffer is, and whether the answer could be written.
-#[derive(Drop)]
+#[derive(Clone, Copy)]
 struct Answered {
     held: usize,
     written: bool,

@@ -1,5 +1,7 @@
 // Adds records on both sides of document 01's rules on members, 12 to 16, and tells of each answer how many bytes it changed. Where an
 // attribute may stand has a program of its own, cases_places.
+#![tactic(auto)]
+
 mod framebuffers;
 mod kernels;
 mod lines;
@@ -10,7 +12,7 @@ mod platforms;
 use cases_text::table;
 
 // What a table's rows are given.
-#[derive(Drop)]
+#[derive(Clone, Copy)]
 enum Kind {
     Map,
     Line,

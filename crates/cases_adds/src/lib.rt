@@ -1,5 +1,7 @@
 // What the programs that run cases of adding share: each add, tried on a copy of a buffer, and its line: the answer, and how many of the
 // buffer's bytes changed. In a buffer of 165s an attribute of n bytes changes n of them and one of the head's count.
+#![tactic(auto)]
+
 pub mod context;
 pub mod full;
 

@@ -1,12 +1,14 @@
 // Runs the question for the attribute at an index on contexts by hand, after document 01's "Questions", with the fifth of the readings
 // that "look right and are not": "Reading dtb from a 56-byte platform attribute, out of the kernel attribute behind it."
+#![tactic(auto)]
+
 mod attributes;
 mod context;
 
 use cases_text::table;
 
 // What a table's rows are given.
-#[derive(Drop)]
+#[derive(Clone, Copy)]
 enum Kind {
     Every,
     EveryStart,

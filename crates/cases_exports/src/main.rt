@@ -1,5 +1,7 @@
 // Contexts exported to Handover payloads, after request R-6 of document 02, on both sides of each rule; each payload is read back. The cases are
 // the rows of the file stdin; its comments say what they are given.
+#![tactic(auto)]
+
 mod given;
 mod show;
 

@@ -1,5 +1,7 @@
 // The library's listing call on both sides of its boundary: outputs of 165s that are one byte too short, just long enough, longer, and
 // empty, for a refused buffer and for an accepted one. Whole listings are the samples' (crate list_context).
+#![tactic(auto)]
+
 use cases_contexts::build;
 use cases_shared::show;
 use cases_text::print;

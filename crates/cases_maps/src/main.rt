@@ -1,6 +1,8 @@
 // Memory maps with broken entries, in each form that is judged: numbers given, bytes given, and a context read. "all entries are tried for
 // 13, then 15, then 16" (document 01), and one pass over them has to answer as three do (request R-3 of document 02). The cases are the
 // rows of the file stdin; its comments say what they are given.
+#![tactic(auto)]
+
 mod forms;
 mod given;
 

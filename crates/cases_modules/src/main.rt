@@ -1,4 +1,6 @@
 // Several modules in one call, after request R-1 of document 02: none, all, and up to the first that is refused.
+#![tactic(auto)]
+
 mod buffers;
 mod lists;
 mod tries;

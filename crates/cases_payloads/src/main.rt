@@ -1,5 +1,7 @@
 // Handover payloads, after request R-2 of document 02 and document 002: read, asked and written, on both sides of each rule. The cases are the
 // rows of the file stdin; its comments say what they are given.
+#![tactic(auto)]
+
 mod again;
 mod given;
 mod long;

@@ -1,4 +1,6 @@
 // Adds where an attribute may stand and where it may not, after document 01's "Adding": the places (9, 10, 11) and the room (18).
+#![tactic(auto)]
+
 mod adds;
 mod long;
 mod places;

@@ -1,5 +1,7 @@
 // Runs three of the four questions on contexts by hand, after document 01's "Questions": the map copied out, the command line, and which
 // module holds an address. The attribute at an index has a program of its own, cases_attributes.
+#![tactic(auto)]
+
 mod lines;
 mod maps;
 mod modules;
@@ -7,7 +9,7 @@ mod modules;
 use cases_text::table;
 
 // What a table's rows are given.
-#[derive(Drop)]
+#[derive(Clone, Copy)]
 enum Kind {
     MapOfTwo,
     NoMap,

@@ -1,5 +1,7 @@
 // Runs document 01's cases that are not marked *, as far as they concern reading; those of the readings that "look right and are not"
 // which an answer of reading can show: all but dtb from a 56-byte platform, which cases_attributes runs; and the rules on members.
+#![tactic(auto)]
+
 mod contexts;
 mod members;
 mod steps;
@@ -8,7 +10,7 @@ use cases_shared::show;
 use cases_text::table;
 
 // What a table's rows are given.
-#[derive(Drop)]
+#[derive(Clone, Copy)]
 enum Kind {
     TwoRanges,
     OneRange,

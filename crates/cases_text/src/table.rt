@@ -88,7 +88,7 @@ pub fn put_numbers(row: &[u8], numbers: &mut [u64]) -> usize {
 }
 
 // The same, up to six.
-#[derive(Drop)]
+#[derive(Clone, Copy)]
 pub struct Values {
     pub count: usize,
     pub numbers: [u64; 6],

@@ -1,4 +1,6 @@
 // A kernel takes a context over. Standard input stands for the memory that it was handed, standard output for its console.
+#![tactic(auto)]
+
 ghost use Rattle.std.specs.Prelude.{◌≡◌};
 ghost use Rattle.ultra_map_question.specs.MapQuestion.{map_copied};
 ghost use Rattle.example_kernel.specs.Kernel.{value_or_none};

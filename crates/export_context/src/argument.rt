@@ -1,6 +1,6 @@
 // The load address, as the argument gives it.
 
-#[derive(Drop)]
+#[derive(Clone, Copy)]
 pub enum Load {
     Address(u64),
     None,

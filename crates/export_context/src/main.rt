@@ -1,5 +1,7 @@
 // Exports the context on standard input to a Handover payload, on standard output: request R-6. The one argument is the load address, in decimal
 // digits. What is written is made by `handover_export::export`, and nothing else is; what is refused is said on standard error.
+#![tactic(auto)]
+
 mod argument;
 
 use argument::Load;

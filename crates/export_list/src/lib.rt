@@ -1,4 +1,6 @@
 // The list that a context is exported to (request R-6) stands in specs/. Here is the tag of a range.
+#![tactic(auto)]
+
 ghost use Rattle.std.specs.Prelude.{◌≡◌};
 ghost use Rattle.export_list.specs.ExportList.{tag_of};
 

@@ -1,5 +1,7 @@
 // The records of the payload of an accepted context. Each function stores its records after the `m.count` that there are, the first one's
 // strings at the offset `m.width` of the table, and answers how far they then reach.
+#![tactic(auto)]
+
 mod attributes;
 mod ranges;
 mod store;

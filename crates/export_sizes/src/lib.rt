@@ -1,5 +1,7 @@
 // How many records the payload of an accepted context has, and how many bytes its strings take: counted before anything is written, so that
 // no list of records is kept. Counts are of 64 bits, so a payload past the room is counted too.
+#![tactic(auto)]
+
 mod attributes;
 
 ghost use Rattle.std.specs.Prelude.{◌≡◌, ◌≤◌};
@@ -11,7 +13,7 @@ ghost use Rattle.export_sizes.specs.Extents.{grown, agent_alone};
 use ultra_layout::{platform, types};
 
 // How many records there are, and how many bytes the agent's string and theirs take, closing zeros included.
-#[derive(Drop)]
+#[derive(Clone, Copy)]
 pub struct Extent {
     pub count: u64,
     pub width: u64,

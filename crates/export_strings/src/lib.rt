@@ -1,4 +1,6 @@
 // The string table of the payload of an accepted context. Each function stores its strings from `to` on, and answers where they end.
+#![tactic(auto)]
+
 mod attributes;
 
 ghost use Rattle.std.specs.Prelude.{◌≡◌, [], ◌++◌, ◌+◌, ◌≤◌, length};

@@ -1,5 +1,7 @@
 // The published calls of Handover payloads, each made with what a frame gives and answered by a frame: 26 to 33 of the table in
 // crates/call_driver/README.md.
+#![tactic(auto)]
+
 mod questions;
 
 use call_frames::{answers, frame, reply};

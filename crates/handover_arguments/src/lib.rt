@@ -1,4 +1,6 @@
 // What is given to write a Handover payload: its parts looked up, measured and judged. Crate handover_writing writes it.
+#![tactic(auto)]
+
 mod judge;
 mod measure;
 mod parts;

@@ -1,5 +1,7 @@
 // Exporting an accepted context to a Handover payload: request R-6. Sizes are counted first, then the records are stored, then the strings; no
 // list of records is kept.
+#![tactic(auto)]
+
 ghost use Rattle.std.specs.Prelude.{◌≡◌, ◌++◌, ◌+◌, ◌≤◌, length};
 ghost use Rattle.byte_layout.specs.Stored.{over, closed};
 ghost use Rattle.ultra_format.specs.Decoding.{context_of};

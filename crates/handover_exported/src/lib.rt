@@ -1,1 +1,2 @@
 // What exporting a context promises: statements (specs/) and proofs (proofs/), no code.
+#![tactic(auto)]

@@ -1,4 +1,6 @@
 // The numbers of a Handover payload, and one record of it. The format itself is defined in specs/.
+#![tactic(auto)]
+
 mod records;
 
 pub use records::{Record, end_suits, load, names_meta, names_name};

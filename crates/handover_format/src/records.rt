@@ -5,7 +5,7 @@ ghost use Rattle.handover_format.specs.PayloadDecoding.{record_at};
 ghost use Rattle.handover_format.specs.RecordTests.{end_suits};
 
 // The 32 bytes of a record by its words. What `name` and `meta` mean depends on the tag.
-#[derive(Drop)]
+#[derive(Clone, Copy)]
 pub struct Record {
     pub tag: u32,
     pub flags: u32,

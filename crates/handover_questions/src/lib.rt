@@ -1,4 +1,6 @@
 // Questions to a Handover payload: the agent, and the record at an index. Each reads first.
+#![tactic(auto)]
+
 ghost use Rattle.std.specs.Prelude.{◌≡◌, true, ◌+◌, ◌≤◌, length};
 ghost use Rattle.handover_format.specs.PayloadDecoding.{pick, string_at};
 ghost use Rattle.handover_format.specs.RecordTests.{if_named};
@@ -11,7 +13,7 @@ use lent_buffers::Part;
 use refusals::{Answer, Refusal};
 
 // What the question about the agent answers: done, with the used length, or the refusal; then the offset and the string's part.
-#[derive(Drop)]
+#[derive(Clone, Copy)]
 pub struct AgentAnswer {
     pub answer: Answer,
     pub offset: u32,
@@ -19,7 +21,7 @@ pub struct AgentAnswer {
 }
 
 // What the question about a record answers: the same, with the record's words and the parts of the strings that it names.
-#[derive(Drop)]
+#[derive(Clone, Copy)]
 pub struct RecordAnswer {
     pub answer: Answer,
     pub words: Record,

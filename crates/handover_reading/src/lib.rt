@@ -1,4 +1,6 @@
 // Reading a lent Handover payload.
+#![tactic(auto)]
+
 mod head;
 mod records;
 mod strings;

@@ -1,4 +1,6 @@
 // Writing a Handover payload: the records as given, with their strings lent in one run of bytes.
+#![tactic(auto)]
+
 mod fill;
 mod store;
 

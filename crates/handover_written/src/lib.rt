@@ -1,1 +1,2 @@
 // What writing a Handover payload promises: statements (specs/) and proofs (proofs/), no code.
+#![tactic(auto)]

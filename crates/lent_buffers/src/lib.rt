@@ -1,4 +1,6 @@
 // A lent buffer: how much of it counts, and parts of it that are handed back.
+#![tactic(auto)]
+
 ghost use Rattle.std.specs.Prelude.{◌≡◌, ◌+◌, ◌≤◌, length};
 ghost use Rattle.lent_buffers.specs.Room.{room_of};
 ghost use Rattle.lent_buffers.specs.LentParts.{PartOf, no_part};
@@ -11,7 +13,7 @@ pub fn room(buf: &[u8]) -> usize
 }
 
 // Where a part of the buffer starts, and how long it is.
-#[derive(Drop)]
+#[derive(Clone, Copy)]
 pub struct Part {
     pub start: u32,
     pub length: u32,

@@ -1,5 +1,7 @@
 // Modules in an array by value, lent as a list: a slice of structs has to be made by a function that is proved by hand, so the programs share
 // this one.
+#![tactic(auto)]
+
 ghost use Rattle.std.specs.Prelude.{◌≡◌, ◌≤◌, take};
 ghost use Rattle.ultra_modules.specs.Modules.{modules_added};
 

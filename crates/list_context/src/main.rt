@@ -1,4 +1,6 @@
 // Lists the context on standard input: document 01, "The listing". What is printed is made by `ultra_listing::list`, and nothing else is.
+#![tactic(auto)]
+
 ghost use Rattle.std.specs.Prelude.{◌≤◌, length};
 ghost use Rattle.listing_format.specs.Listing.{listing_most};
 

@@ -1,4 +1,6 @@
 // The lines of a platform, type 1, put into a lent output.
+#![tactic(auto)]
+
 ghost use Rattle.std.specs.Prelude.{◌≡◌, ◌+◌, ◌≤◌, length};
 ghost use Rattle.text_output.specs.Output.{puts};
 ghost use Rattle.key_value_text.specs.Lines.{line_bytes};

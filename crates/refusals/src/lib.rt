@@ -1,4 +1,6 @@
 // The numbers that a call can give back, and the answers that carry them.
+#![tactic(auto)]
+
 ghost use Rattle.std.specs.Prelude.{◌≡◌};
 ghost use Rattle.refusals.specs.Answers.{refusal, refusal_at};
 
@@ -51,7 +53,7 @@ pub const STRING: u16 = 22;
 pub const END: u16 = 23;
 
 // Why a call was refused: the number, and the offset that goes with it.
-#[derive(Drop)]
+#[derive(Clone, Copy)]
 pub struct Refusal {
     pub number: u16,
     pub offset: u32,
@@ -74,7 +76,7 @@ impl Refusal {
 }
 
 // What most calls answer: done, with the value that the call names, or refused.
-#[derive(Drop)]
+#[derive(Clone, Copy)]
 pub enum Answer {
     Done(u32),
     Refused(Refusal),

@@ -1,5 +1,7 @@
 // A call that has no form toward C, as a symbol of an archive of its own: `make test-stack` computes its deepest stack from there. The contract
 // says that it is that call, answered as the calls toward C are.
+#![tactic(auto)]
+
 ghost use Rattle.std.specs.Prelude.{◌≡◌};
 ghost use Rattle.handover_export.specs.Exporting.{exported};
 ghost use Rattle.ultra_crossing.specs.Crossing.{crossed};

@@ -1,5 +1,7 @@
 // Adds of what becomes one attribute: each judges what it is given, raises the head's count, and lends the part of the buffer from the used
 // length on to the body writer of its type. Those of members given one by one are in `members`.
+#![tactic(auto)]
+
 pub mod members;
 
 ghost use Rattle.std.specs.Prelude.{◌≡◌};

@@ -1,4 +1,6 @@
 // One more attribute at the end of a context: what refuses it there, the offset where it goes, and one more in the head's count.
+#![tactic(auto)]
+
 ghost use Rattle.std.specs.Prelude.{◌≡◌, ◌≤◌};
 ghost use Rattle.lent_buffers.specs.Room.{room_of};
 ghost use Rattle.ultra_format.specs.Decoding.{stored_count, types_before};

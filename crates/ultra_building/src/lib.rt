@@ -1,4 +1,6 @@
 // Beginning a context, and adding to it.
+#![tactic(auto)]
+
 mod adds;
 mod late_members;
 

@@ -1,4 +1,6 @@
 // Answers as one number.
+#![tactic(auto)]
+
 ghost use Rattle.std.specs.Prelude.{◌≡◌};
 ghost use Rattle.ultra_crossing.specs.Crossing.{number_and_value, answer_crossed, step_crossed, reading_crossed, part_crossed};
 

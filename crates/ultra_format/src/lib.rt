@@ -1,4 +1,6 @@
 // The records that the calls share. The format itself is defined in specs/.
+#![tactic(auto)]
+
 mod records;
 
 pub use records::{

@@ -2,20 +2,20 @@
 // end of its array; one given otherwise is refused as 14.
 
 // A platform member "from higher half base on": "An absent one is marked absent, not zero."
-#[derive(Drop)]
+#[derive(Clone, Copy)]
 pub enum OptionalU64 {
     Present(u64),
     Absent,
 }
 
 // The same of the depth, which has one byte.
-#[derive(Drop)]
+#[derive(Clone, Copy)]
 pub enum OptionalU8 {
     Present(u8),
     Absent,
 }
 
-#[derive(Drop)]
+#[derive(Clone, Copy)]
 pub struct PlatformRecord {
     pub kind: u32,
     pub loader_major: u16,
@@ -28,7 +28,7 @@ pub struct PlatformRecord {
     pub smbios: OptionalU64,
 }
 
-#[derive(Drop)]
+#[derive(Clone, Copy)]
 pub struct KernelRecord {
     pub physical_base: u64,
     pub virtual_base: u64,
@@ -41,7 +41,7 @@ pub struct KernelRecord {
     pub path: [u8; 256],
 }
 
-#[derive(Drop)]
+#[derive(Clone, Copy)]
 pub struct ModuleRecord {
     pub kind: u32,
     pub name: [u8; 64],
@@ -49,7 +49,7 @@ pub struct ModuleRecord {
     pub size: u64,
 }
 
-#[derive(Drop)]
+#[derive(Clone, Copy)]
 pub struct FramebufferRecord {
     pub width: u32,
     pub height: u32,
@@ -60,7 +60,7 @@ pub struct FramebufferRecord {
 }
 
 // A record of each type: the attribute's own, and blank ones (zeros, absent members) beside it.
-#[derive(Drop)]
+#[derive(Clone, Copy)]
 pub struct Records {
     pub platform: PlatformRecord,
     pub kernel: KernelRecord,

@@ -1,4 +1,6 @@
 // The listing of a lent context, as bytes in lent output: document 01, "The listing".
+#![tactic(auto)]
+
 mod attributes;
 mod context;
 

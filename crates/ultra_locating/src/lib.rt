@@ -1,4 +1,6 @@
 // Where attributes of an accepted context are.
+#![tactic(auto)]
+
 ghost use Rattle.std.specs.Prelude.{◌≡◌};
 ghost use Rattle.ultra_format.specs.Decoding.{context_of};
 ghost use Rattle.ultra_locating.specs.Passing.{Accepts};

@@ -2,6 +2,8 @@
 // "within a map, all entries are tried for 13, then 15, then 16"
 // One pass tells the first of the three. An entry that has a type and ends by the next one's address breaks none of them; from the first
 // that does not, types and ranges are left to try, and from the first range past 2^64 on, types alone.
+#![tactic(auto)]
+
 pub mod numbers;
 
 ghost use Rattle.std.specs.Prelude.{◌≡◌, ◌+◌, ◌*◌, ◌≤◌, length};

@@ -1,4 +1,6 @@
 // The map copied out: document 01, "Questions". Crate ultra_questions passes the two calls on.
+#![tactic(auto)]
+
 ghost use Rattle.std.specs.Prelude.{◌≡◌, ◌+◌, ◌*◌, ◌≤◌, length};
 ghost use Rattle.byte_layout.specs.Stored.{over};
 ghost use Rattle.words.specs.Words.{u32_at, numbers_at};
@@ -8,7 +10,7 @@ use refusals::{Answer, Refusal};
 use ultra_layout::{attribute, entry, map, types};
 
 // What the question answers, and where the numbers that it copies start and how many they are.
-#[derive(Drop)]
+#[derive(Clone, Copy)]
 struct MapNumbers {
     answer: Answer,
     start: usize,

@@ -1,4 +1,6 @@
 // The rules on one stored attribute's size and members: refusals 12 to 16, by type.
+#![tactic(auto)]
+
 mod command_line;
 mod framebuffer;
 mod kernel;

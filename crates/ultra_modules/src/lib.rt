@@ -1,4 +1,6 @@
 // Several modules added in one call: a list of records, each handed to the single add.
+#![tactic(auto)]
+
 ghost use Rattle.std.specs.Prelude.{◌≡◌, ◌+◌, ◌<◌, ◌^◌, length};
 ghost use Rattle.ultra_modules.specs.Modules.{module_at, modules_added};
 ghost use Rattle.ultra_modules.specs.Turns.{none_yet, goes_on, next_added};
@@ -7,7 +9,7 @@ use refusals::Answer;
 use ultra_format::ModuleRecord;
 
 // What was answered, and how many modules were added.
-#[derive(Drop)]
+#[derive(Clone, Copy)]
 pub struct ModulesAdded {
     pub answer: Answer,
     pub added: usize,

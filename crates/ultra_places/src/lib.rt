@@ -1,4 +1,6 @@
 // Which type may stand where: refusals 9 to 11.
+#![tactic(auto)]
+
 ghost use Rattle.std.specs.Prelude.{◌≡◌, ◌≤◌};
 ghost use Rattle.ultra_format.specs.Places.{placed, single, occurs, nearest, place_check};
 ghost use Rattle.ultra_format.specs.Decoding.{types_before};

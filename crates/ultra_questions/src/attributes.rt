@@ -10,7 +10,7 @@ use ultra_reading::Header;
 
 // What the question answers: done, with the attribute's start, or the refusal; then its type, start and size, its members, and for a map
 // or a command line the part of the buffer that has its entries or its text.
-#[derive(Drop)]
+#[derive(Clone, Copy)]
 pub struct AttributeAnswer {
     pub answer: Answer,
     pub header: Header,

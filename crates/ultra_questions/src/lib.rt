@@ -1,5 +1,7 @@
 // The four questions that a lent context answers: document 01, "Questions". "Each reads first and passes its refusal on, except the
 // command line, which has none." The one for the map is crate ultra_map_question's.
+#![tactic(auto)]
+
 mod attributes;
 mod line;
 mod module;

@@ -1,4 +1,6 @@
 // Reading a lent context. Stepping, and the check of where a type may stand, are passed on.
+#![tactic(auto)]
+
 mod walk;
 
 ghost use Rattle.std.specs.Prelude.{◌≡◌};
@@ -8,14 +10,14 @@ use refusals::{Answer, Refusal};
 pub use ultra_places::next_place_check;
 pub use ultra_stepping::{Cursor, Header, Step};
 
-#[derive(Drop)]
+#[derive(Clone, Copy)]
 pub struct Version {
     pub major: u8,
     pub minor: u8,
 }
 
 // What reading answers: the version and the used length, or the refusal.
-#[derive(Drop)]
+#[derive(Clone, Copy)]
 pub enum Reading {
     Accepted(Version, u32),
     Refused(Refusal),

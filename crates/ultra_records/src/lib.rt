@@ -1,4 +1,6 @@
 // The records of an attribute's members, out of a buffer: one module for each type that has one.
+#![tactic(auto)]
+
 mod framebuffer;
 mod kernel;
 mod module;

@@ -1,4 +1,6 @@
 // The rules on members, refusals 12 to 16, as tests of their values: reading puts to them what a buffer stores, adding what it is given.
+#![tactic(auto)]
+
 pub mod framebuffer;
 pub mod kernel;
 pub mod module;

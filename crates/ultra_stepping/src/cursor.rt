@@ -6,7 +6,7 @@ use refusals::Refusal;
 use ultra_layout::attribute;
 
 // An attribute's type, start and size.
-#[derive(Drop)]
+#[derive(Clone, Copy)]
 pub struct Header {
     pub kind: u32,
     pub start: u32,
@@ -14,13 +14,13 @@ pub struct Header {
 }
 
 // Where stepping stands: the index of the next attribute and the offset that it is looked for at.
-#[derive(Drop)]
+#[derive(Clone, Copy)]
 pub struct Cursor {
     pub index: u32,
     pub offset: u32,
 }
 
-#[derive(Drop)]
+#[derive(Clone, Copy)]
 pub enum Step {
     Attribute(Header, Cursor),
     End,

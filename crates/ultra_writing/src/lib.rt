@@ -1,6 +1,8 @@
 // The bytes of a new attribute, written over the front of a lent part of the buffer: a body writer a type. What is written is one
 // definition for all types, `new_bytes` of ultra_format/specs/Additions.antt; silent bytes are zero. Members come one by one and texts as
 // slices, so that a call from C puts no record with texts on the stack; a framebuffer, numbers only, is its record.
+#![tactic(auto)]
+
 pub mod command_line;
 pub mod framebuffer;
 pub mod kernel;

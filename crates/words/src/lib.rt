@@ -1,5 +1,7 @@
 // Little-endian numbers in byte slices. Every load and store is bytewise in the source, since a lent buffer may start
 // anywhere; each function by itself compiles to one move.
+#![tactic(auto)]
+
 ghost use Rattle.std.specs.Prelude.{◌≡◌, ◌+◌, ◌≤◌, ◌<◌, length};
 ghost use Rattle.words.specs.Words.{u16_at, u32_at, u64_at, little_endian, replaced};
 
