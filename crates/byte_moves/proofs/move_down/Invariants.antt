@@ -1,0 +1,15 @@
+-- `byte_moves::move_down` meets its contract: after i turns the first i bytes are moved.
+use Prim.Native.Nat.{◌-◌, ◌≤◌}
+use mathlib.Core.Path.{◌≡◌, refl}
+use native.Mathlib.Omega.{arith}
+use borrow.Author.Rules.{rules}
+use lib.ListN.{length, length-set}
+use Rattle.byte_moves.specs.Moves.{moved}
+use Rattle.byte_moves.proofs.MoveLaws.{none_moved, down_more}
+use Rattle.byte_moves.proofs.move_down.Given as goal
+
+abbrev pub invariant-loop-i : goal.invariant-loop-i
+invariant-loop-i l = (l.i ≤ l.n) × (length l.buf ≡ length l.initial.buf) × (l.buf ≡ moved l.initial.buf l.from l.to l.i)
+
+abbrev pub decreases-loop-i : goal.decreases-loop-i
+decreases-loop-i l = l.n - l.i

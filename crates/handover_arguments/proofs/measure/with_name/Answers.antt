@@ -1,0 +1,11 @@
+-- `handover_arguments::measure::with_name` meets its contract.
+use Prim.Native.Nat.{ℕ, ◌+◌, min}
+use mathlib.Core.Path.{ap₂, ◌∙◌}
+use mathlib.Core.Bool.{Bool}
+use Rattle.handover_arguments.specs.Measures.{width_if}
+use borrow.Author.Rules.{rules}
+use Rattle.handover_arguments.proofs.measure.with_name.Goals as goal
+
+pub returns : goal.returns
+returns c =
+    c.with_string.ensures ∙ ap₂ (λ (t : Bool) (n : ℕ). min (c.args.total + width_if t n) 65537) c.names_name.ensures c.length_at.ensures

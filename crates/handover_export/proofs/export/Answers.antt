@@ -1,0 +1,76 @@
+-- `export` meets its contract: the reader's refusal, one of its own, or the payload.
+use Prim.Native.Nat.{◌+◌, ◌*◌, ◌≤◌}
+use mathlib.Core.Path.{◌≡◌, refl, sym, ap, ◌∙◌}
+use native.Mathlib.Omega.{arith}
+use lib.ListN.{length}
+use borrow.Author.Rules.{rules}
+use Rattle.lent_buffers.specs.Room.{room_of}
+use Rattle.refusals.specs.declared.Answer.{Answer}
+use Rattle.ultra_format.specs.Decoding.{context_of}
+use Rattle.ultra_locating.specs.Passing.{Accepts}
+use Rattle.export_list.specs.ExportList.{entries_of, agent_of, export_size}
+use Rattle.export_list.proofs.FirstPlatform.{first_room, rsdp_is}
+use Rattle.export_list.proofs.SelfLaws.{size_same}
+use Rattle.handover_export.specs.Exporting.{tests_of, export_check}
+use Rattle.handover_export.proofs.ExportLaws.{count_is, size_is, none_given, unread, refused_by, exported_by}
+use Rattle.handover_export.proofs.export.Goals as goal
+use Rattle.handover_export.proofs.export.Goals.{After-check-number, After-payload-payload, Else-number-ne0, In-Done}
+
+-- after the `let .. else`, reading has accepted the buffer
+abbrev accepts : (c : In-Done) → Accepts c.args.buf.now
+accepts c = (_, sym c.used_length-answer.ensures ∙ c.enum_told-1.type_inv.1)
+
+counts : (c : After-payload-payload) → c.payload-payload.result.count ≡ length (entries_of 0 0 (context_of (start_of c).args.buf.now).attributes)
+counts c = count_is (agent_of (context_of (start_of c).args.buf.now)) _ _ c.payload-payload.ensures.0
+
+sizes : (c : After-payload-payload) → 16 + 32 * c.payload-payload.result.count + c.payload-payload.result.width ≡ export_size (context_of (start_of c).args.buf.now)
+sizes c = size_is (agent_of (context_of (start_of c).args.buf.now)) _ _ c.payload-payload.ensures.0
+
+said : (c : After-check-number) → let a = (start_of (told c)).args in c.check-number.result ≡ export_check (context_of a.buf.now) a.load (room_of a.out.now)
+said c =
+    let a = (start_of c.before.before.before.before.before).args in
+    let r = c.rsdp-rsdp.ensures ∙ rsdp_is a.buf.now (accepts c.before.before.before.before.before) in
+    c.check-number.ensures ∙ (λ j. tests_of (counts c.before.before.before.before.before j) (sizes c.before.before.before.before.before j) a.load (r j) (c.room-room.ensures j))
+
+-- where none is given, the payload fits
+fits : (c : Else-number-ne0) → (c.payload-payload.result.count ≤ 1024) × (16 + 32 * c.payload-payload.result.count + c.payload-payload.result.width ≤ c.room-room.result)
+fits c = none_given _ _ _ _ _ (sym c.check-number.ensures ∙ c.if-number-ne0.false)
+
+pub returns-in_default : goal.returns-in_default
+returns-in_default c =
+    let a = c.args in
+    let e = c.enum_told-in_default-1.type_inv.1 in
+    ap (λ (x : Answer). (x, a.out.now)) e ∙ unread a.buf.now a.load a.out.now _ (sym c.used_length-answer.ensures ∙ e)
+
+pub payload-payload-requires : goal.payload-payload-requires
+payload-payload-requires c = accepts (goal.at.payload-payload-requires c).In-Done
+
+pub rsdp-rsdp-requires : goal.rsdp-rsdp-requires
+rsdp-rsdp-requires c = omega (arith, first_room c.args.buf.now (accepts (goal.at.rsdp-rsdp-requires c).In-Done))
+
+pub returns-then-number-ne0 : goal.returns-then-number-ne0
+returns-then-number-ne0 c =
+    let a = c.args in
+    refused_by a.buf.now a.load a.out.now _ _ (accepts (goal.at.returns-then-number-ne0 c).In-Done).1 (said (goal.at.returns-then-number-ne0 c).After-check-number) _ c.new.ensures c.if-number-ne0.true
+
+pub overflow_cast-payload : goal.overflow_cast-payload
+overflow_cast-payload c = omega (arith, (fits (goal.at.overflow_cast-payload c).Else-number-ne0).0)
+
+pub overflow_cast-size : goal.overflow_cast-size
+overflow_cast-size c = omega (arith, (fits (goal.at.overflow_cast-size c).Else-number-ne0).1, c.room-room.ensures)
+
+pub fill-requires : goal.fill-requires
+fill-requires c =
+    let a = (start_of (goal.at.fill-requires c).After-payload-payload).args in
+    let x = context_of a.buf.now in
+    let f = (fits (goal.at.fill-requires c).Else-number-ne0).1 in
+    let r = c.room-room.ensures in
+    record { accepts = accepts (goal.at.fill-requires c).After-payload-payload; count_value = (counts (goal.at.fill-requires c).After-payload-payload, sizes (goal.at.fill-requires c).After-payload-payload ∙ sym (size_same (agent_of x) a.load _ x.attributes), omega (arith, f, r), omega (arith, f, r)) }
+
+pub overflow_cast-result : goal.overflow_cast-result
+overflow_cast-result c = omega (arith, (fits (goal.at.overflow_cast-result c).Else-number-ne0).1, c.room-room.ensures)
+
+pub returns : goal.returns
+returns c =
+    let a = c.args in
+    exported_by a.buf.now a.load a.out.now _ _ (accepts (goal.at.returns c).In-Done).1 (said (goal.at.returns c).After-check-number) _ _ c.if-number-ne0.false (sizes (goal.at.returns c).After-payload-payload) c.fill.ensures

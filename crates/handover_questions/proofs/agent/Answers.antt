@@ -1,0 +1,47 @@
+-- `handover_questions::agent` meets its contract.
+use Prim.Native.Nat.{ℕ, ◌+◌, ◌*◌, ◌-◌}
+use mathlib.Core.Path.{◌≡◌, sym, ap, ap₂, ◌∙◌}
+use mathlib.Core.Bool.{Bool, true}
+use native.Mathlib.Omega.{arith}
+use Rattle.handover_format.specs.Payloads.{record_start, names_name, names_meta}
+use Rattle.handover_format.specs.PayloadDecoding.{stored_agent, stored_count, stored_table}
+use Rattle.handover_format.specs.declared.records.Record.{Record}
+use Rattle.refusals.specs.declared.Answer.TheVariants.{Done, Refused}
+use Rattle.handover_format.specs.RecordTests.{if_named}
+use Rattle.handover_reading.specs.PayloadReading.{closes, reading_of}
+use Rattle.handover_reading.proofs.Accepted.{Accepted, accepted}
+use Rattle.handover_questions.specs.Questions.{agent_refused}
+use Rattle.handover_questions.proofs.QuestionLaws.{agent_passed, agent_found, closes_at}
+use borrow.Author.Rules.{rules}
+use Rattle.handover_questions.proofs.agent.Goals as goal
+use Rattle.handover_questions.proofs.agent.Goals.{In-Done}
+
+-- after the `let .. else`, reading has accepted the buffer
+done : (c : In-Done) → reading_of c.args.buf.now ≡ Done c.answer-1.type_inv.0.0
+done c = sym c.read-answer.ensures ∙ c.answer-1.type_inv.1
+
+pub returns-in_default : goal.returns-in_default
+returns-in_default c =
+    let e = c.enum_told-1.type_inv.1 in
+    c.no_agent.ensures ∙ ap agent_refused e ∙ agent_passed _ _ (sym c.read-answer.ensures ∙ e)
+
+pub load_u32-offset-requires : goal.load_u32-offset-requires
+load_u32-offset-requires c = omega (arith, (accepted _ _ (done (goal.at.load_u32-offset-requires c).In-Done)).head)
+
+pub load_u32-requires : goal.load_u32-requires
+load_u32-requires c = omega (arith, (accepted _ _ (done (goal.at.load_u32-requires c).In-Done)).head)
+
+pub overflow_sub-size : goal.overflow_sub-size
+overflow_sub-size c = let a = accepted _ _ (done (goal.at.overflow_sub-size c).In-Done) in omega (arith, a.used, a.head, c.load_u32.ensures)
+
+pub string_part-name-requires : goal.string_part-name-requires
+string_part-name-requires c =
+    let a = accepted _ _ (done (goal.at.string_part-name-requires c).In-Done) in
+    let t = c.load_u32.ensures in
+    let o = c.load_u32-offset.ensures in
+    let z = a.used in
+    record { extent_in_bounds = (omega (arith, a.head), omega (arith, a.head)); offset_value = closes_at _ _ _ _ _ t z o a.agent }
+
+pub returns : goal.returns
+returns c =
+    agent_found _ _ _ _ _ (done (goal.at.returns c).In-Done) c.load_u32-offset.ensures (ap record_start c.load_u32.ensures) c.string_part-name.ensures

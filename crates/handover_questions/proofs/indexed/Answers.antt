@@ -1,0 +1,39 @@
+-- `handover_questions::indexed` meets its contract.
+use Prim.Native.Nat.{ℕ, ◌+◌, ◌*◌, ◌-◌}
+use mathlib.Core.Path.{◌≡◌, sym, ap, ap₂, ◌∙◌}
+use mathlib.Core.Bool.{Bool, true}
+use native.Mathlib.Omega.{arith}
+use Rattle.handover_format.specs.Payloads.{record_start, names_name, names_meta}
+use Rattle.handover_format.specs.PayloadDecoding.{stored_agent, stored_count, stored_table}
+use Rattle.handover_format.specs.declared.records.Record.{Record}
+use Rattle.refusals.specs.declared.Answer.TheVariants.{Done, Refused}
+use Rattle.handover_format.specs.RecordTests.{if_named}
+use Rattle.handover_reading.specs.PayloadReading.{closes, reading_of}
+use Rattle.handover_reading.proofs.Accepted.{Accepted, accepted}
+use Rattle.handover_questions.proofs.QuestionLaws.{index_passed, index_past, index_found}
+use borrow.Author.Rules.{rules}
+use Rattle.handover_questions.proofs.indexed.Goals as goal
+use Rattle.handover_questions.proofs.indexed.Goals.{In-Done}
+
+-- after the `let .. else`, reading has accepted the buffer
+done : (c : In-Done) → reading_of c.args.buf.now ≡ Done c.answer-1.type_inv.0.0
+done c = sym c.read-answer.ensures ∙ c.answer-1.type_inv.1
+
+pub returns-in_default : goal.returns-in_default
+returns-in_default c =
+    let s = c.args in
+    let e = c.enum_told-1.type_inv.1 in
+    e ∙ index_passed s.buf.now s.index _ (sym c.read-answer.ensures ∙ e)
+
+pub load_u32-requires : goal.load_u32-requires
+load_u32-requires c = omega (arith, (accepted _ _ (done (goal.at.load_u32-requires c).In-Done)).head)
+
+pub returns-then-load_u32-index : goal.returns-then-load_u32-index
+returns-then-load_u32-index c =
+    let s = c.args in
+    ap Refused c.new.ensures ∙ index_past s.buf.now s.index _ (done (goal.at.returns-then-load_u32-index c).In-Done) (omega (arith, c.load_u32.ensures))
+
+pub returns : goal.returns
+returns c =
+    let s = c.args in
+    index_found s.buf.now s.index _ (done (goal.at.returns c).In-Done) (omega (arith, c.load_u32.ensures))

@@ -1,0 +1,6 @@
+-- `kernel::partition` meets its contract.
+use borrow.Author.Rules.{rules}
+use Rattle.listing_lines.proofs.kernel.partition.Goals as goal
+
+pub returns : goal.returns
+returns c = cc

@@ -1,0 +1,6 @@
+-- `module::write` meets its contract.
+use borrow.Author.Rules.{rules}
+use Rattle.listing_lines.proofs.module.write.Goals as goal
+
+pub returns : goal.returns
+returns c = cc

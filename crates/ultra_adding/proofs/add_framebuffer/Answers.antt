@@ -1,0 +1,40 @@
+-- `ultra_adding::add_framebuffer` meets its contract.
+use mathlib.Core.Path.{refl}
+use mathlib.Core.Bool.{true}
+use native.Mathlib.Omega.{arith}
+use borrow.Author.Rules.{rules}
+use Rattle.ultra_format.specs.Plain.{written_size}
+use Rattle.ultra_format.specs.Contexts.{Body}
+use Rattle.ultra_format.specs.Additions.{body_given, Addition.add_framebuffer}
+use Rattle.ultra_adding.proofs.Adding.{Space, Adds, adds}
+use Rattle.ultra_adding.proofs.add_framebuffer.Goals as goal
+use Rattle.ultra_adding.proofs.add_framebuffer.Goals.{After-raise_count-answer, In-Done}
+
+abbrev body : After-raise_count-answer → Body
+body c = body_given (add_framebuffer (start c).args.given)
+
+add : (c : After-raise_count-answer) → Adds c.args.buf.now c.raise_count-answer.new.buf true (body c) c.raise_count-answer.result 32
+unfolding body_given written_size
+add c = adds c.raise_count-answer.ensures refl c.check-number.ensures refl
+
+here : (c : In-Done) → Space c.raise_count-answer.new.buf c.answer-1.type_inv.0.0 32
+here c = (add c.before.before.before.before.before).space c.answer-1.type_inv.1
+
+pub returns-in_default : goal.returns-in_default
+returns-in_default c = (add (goal.at.returns-in_default c).After-raise_count-answer).refused c.enum_told-1.type_inv.1
+
+pub slice_bounds-write-count : goal.slice_bounds-write-count
+slice_bounds-write-count c = omega (arith, here (goal.at.slice_bounds-write-count c).In-Done)
+
+pub slice_bounds-write-start : goal.slice_bounds-write-start
+slice_bounds-write-start c = omega (arith, here (goal.at.slice_bounds-write-start c).In-Done)
+
+pub write-requires : goal.write-requires
+write-requires c = omega (arith, here (goal.at.write-requires c).In-Done)
+
+pub overflow_add-result : goal.overflow_add-result
+overflow_add-result c = omega (arith, here (goal.at.overflow_add-result c).In-Done)
+
+pub returns : goal.returns
+returns c =
+    (add (goal.at.returns c).After-raise_count-answer).written c.answer-1.type_inv.1 c.write.ensures

@@ -1,0 +1,45 @@
+-- `ultra_adding::add_map` meets its contract.
+use mathlib.Core.Path.{refl}
+use native.Mathlib.Omega.{arith}
+use borrow.Author.Rules.{rules}
+use borrow.Author.Tests.{eqb-true}
+use Rattle.ultra_format.specs.Additions.{Addition, formed, body_given, Addition.add_map}
+use Rattle.ultra_adding.proofs.Adding.{Space, Adds, adds}
+use Rattle.ultra_adding.proofs.add_map.Goals as goal
+use Rattle.ultra_adding.proofs.add_map.Goals.{After-raise_count-answer, In-Done}
+
+abbrev map : After-raise_count-answer → Addition
+map c = add_map (start c).args.numbers.now
+
+add : (c : After-raise_count-answer) → Adds c.args.buf.now c.raise_count-answer.new.buf (formed (map c)) (body_given (map c)) c.raise_count-answer.result c.size-size.result
+unfolding body_given
+add c = adds c.raise_count-answer.ensures refl c.check-number.ensures c.size-size.ensures
+
+here : (c : In-Done)
+    → Space c.raise_count-answer.new.buf c.answer-1.type_inv.0.0 c.size-size.result
+here c = (add c.before.before.before.before.before).space c.answer-1.type_inv.1
+
+pub returns-in_default : goal.returns-in_default
+returns-in_default c = (add (goal.at.returns-in_default c).After-raise_count-answer).refused c.enum_told-1.type_inv.1
+
+pub slice_bounds-write-count : goal.slice_bounds-write-count
+slice_bounds-write-count c = omega (arith, here (goal.at.slice_bounds-write-count c).In-Done)
+
+pub slice_bounds-write-start : goal.slice_bounds-write-start
+slice_bounds-write-start c = omega (arith, here (goal.at.slice_bounds-write-start c).In-Done)
+
+pub write-requires : goal.write-requires
+write-requires c =
+    let h = here (goal.at.write-requires c).In-Done in
+    let f = ((add (goal.at.write-requires c).After-raise_count-answer).holds c.answer-1.type_inv.1).0 in
+    record { numbers_in_bounds = omega arith; numbers_len = (eqb-true _ 0 f, omega arith) }
+
+pub overflow_cast-result : goal.overflow_cast-result
+overflow_cast-result c = omega (arith, here (goal.at.overflow_cast-result c).In-Done)
+
+pub overflow_add-result : goal.overflow_add-result
+overflow_add-result c = omega (arith, here (goal.at.overflow_add-result c).In-Done)
+
+pub returns : goal.returns
+returns c =
+    (add (goal.at.returns c).After-raise_count-answer).written c.answer-1.type_inv.1 c.write.ensures

@@ -1,0 +1,47 @@
+-- `ultra_adding::members::add_kernel` meets its contract.
+use mathlib.Core.Path.{refl, ◌∙◌}
+use native.Mathlib.Omega.{arith}
+use borrow.Author.Rules.{rules}
+use Rattle.ultra_format.specs.Contexts.{Body}
+use Rattle.ultra_format.specs.Members.{size_suits, values, texts, ranges, ordered}
+use Rattle.ultra_format.specs.Plain.{written_size}
+use Rattle.ultra_format.specs.Additions.{kernel_of, guids_formed}
+use Rattle.ultra_arguments.proofs.Judged.{judged}
+use Rattle.ultra_adding.proofs.GivenMembers.{path_short, guids_wide}
+use Rattle.ultra_adding.proofs.Adding.{Space, Adds, adds}
+use Rattle.ultra_adding.proofs.members.add_kernel.Goals as goal
+use Rattle.ultra_adding.proofs.members.add_kernel.Goals.{After-raise_count-answer, In-Done, Start}
+
+abbrev body : Start → Body
+body s = kernel_of s.args.phys s.args.virt s.args.size s.args.partition-type s.args.disk.now s.args.partition.now s.args.disk-index s.args.partition-index s.args.path.now
+
+add : (c : After-raise_count-answer)
+    → Adds c.args.buf.now c.raise_count-answer.new.buf (guids_formed c.args.disk.now c.args.partition.now) (body c.before.before.before.before.before.before.before) c.raise_count-answer.result 336
+unfolding written_size size_suits values texts ranges ordered
+add c = adds c.raise_count-answer.ensures refl (c.check-number.ensures ∙ judged _ (body c) refl refl refl refl refl) refl
+
+here : (c : In-Done) → Space c.raise_count-answer.new.buf c.answer-1.type_inv.0.0 336
+here c = (add c.before.before.before.before.before).space c.answer-1.type_inv.1
+
+pub returns-in_default : goal.returns-in_default
+returns-in_default c = (add (goal.at.returns-in_default c).After-raise_count-answer).refused c.enum_told-1.type_inv.1
+
+pub slice_bounds-write-count : goal.slice_bounds-write-count
+slice_bounds-write-count c = omega (arith, here (goal.at.slice_bounds-write-count c).In-Done)
+
+pub slice_bounds-write-start : goal.slice_bounds-write-start
+slice_bounds-write-start c = omega (arith, here (goal.at.slice_bounds-write-start c).In-Done)
+
+pub write-requires : goal.write-requires
+unfolding written_size texts
+write-requires c =
+    let d = (add (goal.at.write-requires c).After-raise_count-answer).holds c.answer-1.type_inv.1 in
+    let g = guids_wide c.args.disk.now c.args.partition.now d.0 in
+    (omega (arith, here (goal.at.write-requires c).In-Done), g.0, g.1, omega (arith, path_short _ d.1.texts_hold))
+
+pub overflow_add-result : goal.overflow_add-result
+overflow_add-result c = omega (arith, here (goal.at.overflow_add-result c).In-Done)
+
+pub returns : goal.returns
+returns c =
+    (add (goal.at.returns c).After-raise_count-answer).written c.answer-1.type_inv.1 c.write.ensures

@@ -1,0 +1,27 @@
+-- `ultra_appending::raise_count` meets its contract.
+use mathlib.Core.Path.{sym, ◌∙◌}
+use native.Mathlib.Omega.{arith}
+use borrow.Author.Rules.{rules}
+use Rattle.ultra_appending.proofs.Appending.{Read, was_read, appended_at, raise_refused, raise_done}
+use Rattle.ultra_appending.proofs.raise_count.Goals as goal
+use Rattle.ultra_appending.proofs.raise_count.Goals.{In-Done}
+
+-- the offset was found in a buffer that was read
+read : (c : In-Done) → Read c.args.buf.now c.enum_told-1.type_inv.0.0
+read c = was_read _ _ (appended_at _ _ _ _ _ (sym c.offset-answer.ensures ∙ c.enum_told-1.type_inv.1)).0
+
+pub returns-in_default : goal.returns-in_default
+returns-in_default c = raise_refused _ _ _ _ _ _ c.enum_told-in_default-1.type_inv.1 c.offset-answer.ensures
+
+pub load_u32-count-requires : goal.load_u32-count-requires
+load_u32-count-requires c = omega (arith, read (goal.at.load_u32-count-requires c).In-Done-1)
+
+pub overflow_add-count : goal.overflow_add-count
+overflow_add-count c = omega (arith, read (goal.at.overflow_add-count c).In-Done-1, c.load_u32-count.ensures)
+
+pub store_u32-requires : goal.store_u32-requires
+store_u32-requires c = omega (arith, read (goal.at.store_u32-requires c).In-Done-1)
+
+pub returns : goal.returns
+returns c =
+    raise_done _ _ _ _ _ _ _ _ c.enum_told-1.type_inv.1 c.offset-answer.ensures c.load_u32-count.ensures c.store_u32.ensures

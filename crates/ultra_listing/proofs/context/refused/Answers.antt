@@ -1,0 +1,6 @@
+-- `context::refused` meets its contract.
+use borrow.Author.Rules.{rules}
+use Rattle.ultra_listing.proofs.context.refused.Goals as goal
+
+pub returns : goal.returns
+returns c = c.two.ensures

@@ -1,0 +1,23 @@
+-- `write` meets its contract: the lines of the context, or of the refusal.
+use mathlib.Core.Path.{sym, ◌∙◌}
+use Rattle.key_value_text.proofs.LinePuts.{lines_put}
+use Rattle.listing_format.specs.Listing.{lines_of}
+use Rattle.ultra_locating.specs.Passing.{Accepts}
+use Rattle.ultra_locating.proofs.Located.{used_is_law}
+use borrow.Author.Rules.{rules}
+use Rattle.ultra_listing.proofs.write.Goals as goal
+
+pub accepted-requires : goal.accepted-requires
+accepted-requires c =
+    let a : Accepts c.args.buf.now = (c.answer-in-Done-1.type_inv.0.0, sym c.used_length-answer.ensures ∙ c.answer-in-Done-1.type_inv.1) in
+    record { accepts = a; used_value = used_is_law c.args.buf.now a }
+
+pub returns-in-Refused : goal.returns-in-Refused
+unfolding lines_of
+returns-in-Refused c =
+    rw (← c.used_length-answer.ensures, c.answer-1.type_inv.1) (c.refused.ensures ∙ lines_put _ _)
+
+pub returns-in-Done : goal.returns-in-Done
+unfolding lines_of
+returns-in-Done c =
+    rw (← c.used_length-answer.ensures, c.answer-in-Done-1.type_inv.1) (c.accepted.ensures ∙ lines_put _ _)

@@ -1,0 +1,52 @@
+-- `ultra_map_question::map_numbers` meets its contract.
+use mathlib.Core.Path.{◌≡◌, sym, ap, ap₂, ◌∙◌}
+use native.Mathlib.Omega.{arith}
+use Rattle.ultra_format.specs.Decoding.{start}
+use Rattle.refusals.specs.declared.Refusal.{Refusal}
+use Rattle.refusals.specs.declared.Answer.TheVariants.{Refused}
+use Rattle.ultra_locating.specs.Passing.{Accepts}
+use Rattle.ultra_locating.proofs.Searches.{FirstOfType, first_of}
+use Rattle.ultra_map_question.specs.MapQuestion.{entries_stored, no_numbers, numbers_from}
+use Rattle.ultra_map_question.proofs.MapLaws.{numbers_passed, numbers_absent, numbers_room, numbers_found}
+use borrow.Author.Rules.{rules}
+use Rattle.ultra_map_question.proofs.map_numbers.Goals as goal
+use Rattle.ultra_map_question.proofs.map_numbers.Goals.{After-entries_at-entries, Else-start-eq0, In-Done}
+
+-- after the `let .. else`, reading has accepted the buffer
+abbrev accepts : (c : In-Done) → Accepts c.args.buf.now
+accepts c = (_, sym c.used_length-answer.ensures ∙ c.answer-1.type_inv.1)
+
+-- there is a map, at `start`
+map : (c : Else-start-eq0) → FirstOfType c.args.buf.now 3 c.first_of_type-start.result
+map c = first_of _ 3 _ (accepts c.before.before) c.first_of_type-start.ensures c.if-start-eq0.false
+
+entries : (c : After-entries_at-entries)
+    → let b = c.args.buf.now in c.entries_at-entries.result ≡ entries_stored b (start b (map c.before).found.index)
+entries c = c.entries_at-entries.ensures ∙ ap (entries_stored c.args.buf.now) (map c.before).at
+
+pub returns-in_default : goal.returns-in_default
+returns-in_default c =
+    let e = c.enum_told-1.type_inv.1 in
+    c.no_numbers.ensures ∙ ap no_numbers e ∙ numbers_passed _ _ (sym c.used_length-answer.ensures ∙ e)
+
+pub first_of_type-start-requires : goal.first_of_type-start-requires
+first_of_type-start-requires c = accepts (goal.at.first_of_type-start-requires c).In-Done
+
+pub returns-then-start-eq0 : goal.returns-then-start-eq0
+returns-then-start-eq0 c =
+    c.no_numbers-then-start-eq0.ensures
+    ∙ ap (λ (r : Refusal). no_numbers (Refused r)) c.new.ensures
+    ∙ numbers_absent _ _ _ (accepts (goal.at.returns-then-start-eq0 c).In-Done).1 (sym c.first_of_type-start.ensures ∙ c.if-start-eq0.true)
+
+pub entries_at-entries-requires : goal.entries_at-entries-requires
+entries_at-entries-requires c = let w = (map (goal.at.entries_at-entries-requires c).Else-start-eq0).here.reached in (omega (arith, w), w.least)
+
+pub returns-then-capacity-count : goal.returns-then-capacity-count
+returns-then-capacity-count c =
+    c.no_numbers-then-capacity-count.ensures
+    ∙ ap (λ (r : Refusal). no_numbers (Refused r)) c.new-then-capacity-count.ensures
+    ∙ numbers_room _ _ _ (accepts (goal.at.returns-then-capacity-count c).In-Done).1 (map (goal.at.returns-then-capacity-count c).Else-start-eq0).found (omega (arith, entries (goal.at.returns-then-capacity-count c).After-entries_at-entries, c.if-capacity-count.true))
+
+pub returns : goal.returns
+returns c =
+    ap₂ numbers_from (map (goal.at.returns c).Else-start-eq0).at (entries (goal.at.returns c).After-entries_at-entries) ∙ numbers_found _ _ _ (accepts (goal.at.returns c).In-Done).1 (map (goal.at.returns c).Else-start-eq0).found (omega (arith, entries (goal.at.returns c).After-entries_at-entries, c.if-capacity-count.false))

@@ -1,0 +1,6 @@
+-- `ultra_questions::attributes::unanswered` meets its contract.
+use borrow.Author.Rules.{rules}
+use Rattle.ultra_questions.proofs.attributes.unanswered.Goals as goal
+
+pub returns : goal.returns
+returns c = rw (c.blank-records.ensures, c.no_part-part.ensures)

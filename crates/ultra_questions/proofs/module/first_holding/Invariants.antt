@@ -1,0 +1,20 @@
+-- `ultra_questions::module::first_holding` meets its contract. The invariant: `at` is where attribute `i` starts, and the search from
+-- there on finds what the whole search finds.
+use Prim.Native.Nat.{ℕ, ◌-◌, ◌≤◌}
+use mathlib.Core.Path.{◌≡◌, refl, sym, ap, ◌∙◌}
+use native.Mathlib.Omega.{arith}
+use borrow.Author.Rules.{rules}
+use Rattle.words.specs.Words.{u32_at}
+use Rattle.ultra_format.specs.Decoding.{decoded, start, stored_attribute, context_of}
+use Rattle.ultra_locating.specs.Searching.{first_in, found_start}
+use Rattle.ultra_questions.specs.ModuleQuestion.{holding}
+use Rattle.ultra_locating.proofs.Located.{Loaded, head_inside, loaded}
+use Rattle.ultra_locating.proofs.Searches.{searched, search_here, search_next, search_end, search_whole}
+use Rattle.ultra_questions.proofs.module.first_holding.Given as goal
+
+abbrev pub invariant-loop-i : goal.invariant-loop-i
+invariant-loop-i l =
+    (l.at ≡ start l.buf l.i) × (l.i ≤ l.count) × (searched (holding l.address) l.buf l.i (l.count - l.i) ≡ first_in (holding l.address) (context_of l.buf))
+
+abbrev pub decreases-loop-i : goal.decreases-loop-i
+decreases-loop-i l = l.count - l.i
