@@ -21,7 +21,7 @@ pub record PartOf (r s : Bor (List ℕ)) (p : Part) : Type 0 where
 
 -- the same said of the pointers alone, apart from `PartOf`: r is memory of s, `o` bytes further on
 abbrev pub LiesAt : Bor (List ℕ) → Bor (List ℕ) → ℕ → Type 0
-LiesAt r s o = (r.ptr.0 ≡ s.ptr.0) × (r.ptr.1 ≡ o + s.ptr.1)
+LiesAt r s o = (r.ref_ptr.0 ≡ s.ref_ptr.0) × (r.ref_ptr.1 ≡ o + s.ref_ptr.1)
 
 -- r is all of s and no copy: the same memory, from the same byte on, with the same bytes
 abbrev pub WholeOf : Bor (List ℕ) → Bor (List ℕ) → Type 0

@@ -17,13 +17,13 @@ use Rattle.export_strings.proofs.table.Goals.{After-text-files, Start}
 
 -- the parts of the table
 abbrev who : Start → List ℕ
-who s = closed (text_at s.args.buf.now 24 32)
+who s = closed (text_at c.args.buf.now 24 32)
 
 abbrev these : Start → ℕ → List ℕ
-these s k = strings (gathered k (context_of s.args.buf.now).attributes)
+these s k = strings (gathered k (context_of c.args.buf.now).attributes)
 
 abbrev all : Start → List ℕ
-all s = let c = context_of s.args.buf.now in closed (agent_of c) ++ strings (between c.attributes)
+all s = let c = context_of c.args.buf.now in closed (agent_of c) ++ strings (between c.attributes)
 
 parts : (s : Start) → all s ≡ who s ++ (these s 4 ++ these s 5)
 parts s =
@@ -33,7 +33,7 @@ parts s =
 -- there is room for what is left
 rest : (c : After-text-files) → c.text-files.result + length (these c.before.before.before.before 4 ++ these c.before.before.before.before 5) ≤ length c.text-files.new.out
 rest c =
-    bytes_rest c.args.out.now c.args.to (who c.before.before.before.before) (these c.before.before.before.before 4 ++ these c.before.before.before.before 5) (all c.before.before.before.before) (parts c.before.before.before.before) c.requires.buf_in_bounds _ _ c.text-files.ensures c.text-files.auto.1.1.1.0
+    bytes_rest c.args.out.now c.args.to (who c.before.before.before.before) (these c.before.before.before.before 4 ++ these c.before.before.before.before 5) (all c.before.before.before.before) (parts c.before.before.before.before) c.requires.buf_in_bounds _ _ c.text-files.ensures c.text-files.auto.out
 
 pub text-files-requires : goal.text-files-requires
 text-files-requires c =
@@ -43,10 +43,10 @@ pub of_type-line-requires : goal.of_type-line-requires
 of_type-line-requires c = record { accepts = c.requires.accepts; buf_in_bounds = bytes_front c.text-files.new.out c.text-files.result (these (goal.at.of_type-line-requires c).Start 4) (these (goal.at.of_type-line-requires c).Start 5) (these (goal.at.of_type-line-requires c).Start 4 ++ these (goal.at.of_type-line-requires c).Start 5) refl (rest (goal.at.of_type-line-requires c).After-text-files) }
 
 pub of_type-requires : goal.of_type-requires
-of_type-requires c = record { accepts = c.requires.accepts; buf_in_bounds = bytes_rest c.text-files.new.out c.text-files.result (these (goal.at.of_type-requires c).Start 4) (these (goal.at.of_type-requires c).Start 5) (these (goal.at.of_type-requires c).Start 4 ++ these (goal.at.of_type-requires c).Start 5) refl (rest (goal.at.of_type-requires c).After-text-files) _ _ c.of_type-line.ensures c.of_type-line.auto.1.1.0 }
+of_type-requires c = record { accepts = c.requires.accepts; buf_in_bounds = bytes_rest c.text-files.new.out c.text-files.result (these (goal.at.of_type-requires c).Start 4) (these (goal.at.of_type-requires c).Start 5) (these (goal.at.of_type-requires c).Start 4 ++ these (goal.at.of_type-requires c).Start 5) refl (rest (goal.at.of_type-requires c).After-text-files) _ _ c.of_type-line.ensures c.of_type-line.auto.out }
 
 pub returns : goal.returns
 returns c =
     c.of_type.ensures
-    ∙ bytes_step c.text-files.new.out c.text-files.result (these (goal.at.returns c).Start 4) (these (goal.at.returns c).Start 5) (these (goal.at.returns c).Start 4 ++ these (goal.at.returns c).Start 5) refl (rest (goal.at.returns c).After-text-files) _ _ c.of_type-line.ensures c.of_type-line.auto.1.1.0
-    ∙ bytes_step c.args.out.now c.args.to (who (goal.at.returns c).Start) (these (goal.at.returns c).Start 4 ++ these (goal.at.returns c).Start 5) (all (goal.at.returns c).Start) (parts (goal.at.returns c).Start) c.requires.buf_in_bounds _ _ c.text-files.ensures c.text-files.auto.1.1.1.0
+    ∙ bytes_step c.text-files.new.out c.text-files.result (these (goal.at.returns c).Start 4) (these (goal.at.returns c).Start 5) (these (goal.at.returns c).Start 4 ++ these (goal.at.returns c).Start 5) refl (rest (goal.at.returns c).After-text-files) _ _ c.of_type-line.ensures c.of_type-line.auto.out
+    ∙ bytes_step c.args.out.now c.args.to (who (goal.at.returns c).Start) (these (goal.at.returns c).Start 4 ++ these (goal.at.returns c).Start 5) (all (goal.at.returns c).Start) (parts (goal.at.returns c).Start) c.requires.buf_in_bounds _ _ c.text-files.ensures c.text-files.auto.out

@@ -29,12 +29,12 @@ records-requires c =
     let a = c.args in
     let p = c.requires.count_value in
     let l = (context_of a.buf.now).attributes in
-    record { accepts = c.requires.accepts; buf_in_bounds = (omega (arith, p.1, p.2, c.head.auto.0, entries_length l a.load a.size), omega (arith, p.1, p.3, ap length (tables (goal.at.records-requires c).Start))) }
+    record { accepts = c.requires.accepts; buf_in_bounds = (omega (arith, p.1, p.2, c.head.auto.out, entries_length l a.load a.size), omega (arith, p.1, p.3, ap length (tables (goal.at.records-requires c).Start))) }
 
 pub table-requires : goal.table-requires
 table-requires c =
     let p = c.requires.count_value in
-    record { accepts = c.requires.accepts; buf_in_bounds = omega (arith, p.0, p.1, p.2, ap length (tables (goal.at.table-requires c).Start), c.records.auto.1.1.0, c.head.auto.0) }
+    record { accepts = c.requires.accepts; buf_in_bounds = omega (arith, p.0, p.1, p.2, ap length (tables (goal.at.table-requires c).Start), c.records.auto.out, c.head.auto.out) }
 
 pub returns : goal.returns
 returns c =

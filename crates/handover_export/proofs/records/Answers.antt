@@ -20,17 +20,17 @@ use Rattle.handover_export.proofs.records.Goals as goal
 use Rattle.handover_export.proofs.records.Goals.{After-agent-agent, After-bare-first, Start}
 
 abbrev first : Start → List Entry
-first s = bare handover_self s.args.load s.args.size ∷ []
+first s = bare handover_self c.args.load c.args.size ∷ []
 
 abbrev inner : Start → List Entry
-inner s = between (context_of s.args.buf.now).attributes
+inner s = between (context_of c.args.buf.now).attributes
 
 abbrev last : List Entry
 last = bare handover_end 0 0 ∷ []
 
 -- all of them
 abbrev all : Start → List Entry
-all s = entries_of s.args.load s.args.size (context_of s.args.buf.now).attributes
+all s = entries_of c.args.load c.args.size (context_of c.args.buf.now).attributes
 
 none : (c : After-agent-agent) → c.agent-agent.result.count ≡ 0
 none c = ap (λ (m : Extent). m.count) c.agent-agent.ensures.0
@@ -49,7 +49,7 @@ fit c =
 
 rest : (c : After-bare-first) → RowsFit c.bare-first.new.out c.bare-first.result (inner (start_of c) ++ last)
 rest c =
-    rows_rest c.args.out.now c.agent-agent.result (first c.before.before.before.before.before) (inner c.before.before.before.before.before ++ last) (all c.before.before.before.before.before) refl (fit c.before.before) _ _ c.bare-first.ensures c.bare-first.auto.0
+    rows_rest c.args.out.now c.agent-agent.result (first c.before.before.before.before.before) (inner c.before.before.before.before.before ++ last) (all c.before.before.before.before.before) refl (fit c.before.before) _ _ c.bare-first.ensures c.bare-first.auto.out
 
 pub bare-first-requires : goal.bare-first-requires
 bare-first-requires c = record { tag_value = (refl, refl); rows_fit = rows_front c.args.out.now c.agent-agent.result (first (goal.at.bare-first-requires c).Start) (inner (goal.at.bare-first-requires c).Start ++ last) (all (goal.at.bare-first-requires c).Start) refl (fit (goal.at.bare-first-requires c).After-agent-agent) }
@@ -58,13 +58,13 @@ pub between-rest-requires : goal.between-rest-requires
 between-rest-requires c = record { accepts = c.requires.accepts; rows_fit = rows_front c.bare-first.new.out c.bare-first.result (inner (goal.at.between-rest-requires c).Start) last (inner (goal.at.between-rest-requires c).Start ++ last) refl (rest (goal.at.between-rest-requires c).After-bare-first) }
 
 pub bare-requires : goal.bare-requires
-bare-requires c = record { tag_value = (refl, refl); rows_fit = rows_rest c.bare-first.new.out c.bare-first.result (inner (goal.at.bare-requires c).Start) last (inner (goal.at.bare-requires c).Start ++ last) refl (rest (goal.at.bare-requires c).After-bare-first) _ _ c.between-rest.ensures c.between-rest.auto.1.0 }
+bare-requires c = record { tag_value = (refl, refl); rows_fit = rows_rest c.bare-first.new.out c.bare-first.result (inner (goal.at.bare-requires c).Start) last (inner (goal.at.bare-requires c).Start ++ last) refl (rest (goal.at.bare-requires c).After-bare-first) _ _ c.between-rest.ensures c.between-rest.auto.out }
 
 pub returns : goal.returns
 returns c =
     let e = c.args.out.now in
     rows_out e _ c.agent-agent.result _ (all (goal.at.returns c).Start)
     (c.bare.ensures
-    ∙ rows_step c.bare-first.new.out c.bare-first.result (inner (goal.at.returns c).Start) last (inner (goal.at.returns c).Start ++ last) refl (rest (goal.at.returns c).After-bare-first) _ _ c.between-rest.ensures c.between-rest.auto.1.0
-    ∙ rows_step e c.agent-agent.result (first (goal.at.returns c).Start) (inner (goal.at.returns c).Start ++ last) (all (goal.at.returns c).Start) refl (fit (goal.at.returns c).After-agent-agent) _ _ c.bare-first.ensures c.bare-first.auto.0)
+    ∙ rows_step c.bare-first.new.out c.bare-first.result (inner (goal.at.returns c).Start) last (inner (goal.at.returns c).Start ++ last) refl (rest (goal.at.returns c).After-bare-first) _ _ c.between-rest.ensures c.between-rest.auto.out
+    ∙ rows_step e c.agent-agent.result (first (goal.at.returns c).Start) (inner (goal.at.returns c).Start ++ last) (all (goal.at.returns c).Start) refl (fit (goal.at.returns c).After-agent-agent) _ _ c.bare-first.ensures c.bare-first.auto.out)
     ∙ (λ j. put e (record_start (none (goal.at.returns c).After-agent-agent j)) (rows_bytes (named (goal.at.returns c).After-agent-agent j) (all (goal.at.returns c).Start)))

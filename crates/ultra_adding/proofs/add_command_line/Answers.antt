@@ -10,7 +10,7 @@ use Rattle.ultra_adding.proofs.add_command_line.Goals as goal
 use Rattle.ultra_adding.proofs.add_command_line.Goals.{After-raise_count-answer, In-Done}
 
 abbrev body : After-raise_count-answer → Body
-body c = body_given (add_command_line (start c).args.text.now)
+body c = body_given (add_command_line c.args.text.now)
 
 add : (c : After-raise_count-answer) → Adds c.args.buf.now c.raise_count-answer.new.buf true (body c) c.raise_count-answer.result c.size-size.result
 unfolding body_given

@@ -11,7 +11,7 @@ use Rattle.ultra_adding.proofs.add_framebuffer.Goals as goal
 use Rattle.ultra_adding.proofs.add_framebuffer.Goals.{After-raise_count-answer, In-Done}
 
 abbrev body : After-raise_count-answer → Body
-body c = body_given (add_framebuffer (start c).args.given)
+body c = body_given (add_framebuffer c.args.given)
 
 add : (c : After-raise_count-answer) → Adds c.args.buf.now c.raise_count-answer.new.buf true (body c) c.raise_count-answer.result 32
 unfolding body_given written_size

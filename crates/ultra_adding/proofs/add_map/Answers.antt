@@ -9,7 +9,7 @@ use Rattle.ultra_adding.proofs.add_map.Goals as goal
 use Rattle.ultra_adding.proofs.add_map.Goals.{After-raise_count-answer, In-Done}
 
 abbrev map : After-raise_count-answer → Addition
-map c = add_map (start c).args.numbers.now
+map c = add_map c.args.numbers.now
 
 add : (c : After-raise_count-answer) → Adds c.args.buf.now c.raise_count-answer.new.buf (formed (map c)) (body_given (map c)) c.raise_count-answer.result c.size-size.result
 unfolding body_given

@@ -23,10 +23,10 @@ here c =
 
 -- its records, and those that are left
 abbrev these : In-loop-i → List Entry
-these c = let l = c.before in let a = (start_of l).args in becomes a.buf.now l.loop.at a.kind
+these c = let a = c.args in becomes a.buf.now c.loop-i.at a.kind
 
 abbrev rest : In-loop-i → ℕ → List Entry
-rest c i = let l = c.before in let a = (start_of l).args in left a.buf.now a.kind l.before.count.result i
+rest c i = let a = c.args in left a.buf.now a.kind c.count-count.result i
 
 pub count-count-requires : goal.count-count-requires
 count-count-requires c = omega (arith, head_inside c.args.buf.now c.requires.accepts)
@@ -54,7 +54,7 @@ loop-i-preserved c =
     let v = c.loop-i.invariant in
     let h = here (goal.at.loop-i-preserved c).In-loop-i in
     let e = c.of_attribute-m.ensures in
-    let n = c.of_attribute-m.auto.1.1.1.0 in
+    let n = c.of_attribute-m.auto.out in
     let x = these (goal.at.loop-i-preserved c).In-loop-i in
     let y = rest (goal.at.loop-i-preserved c).In-loop-i (c.loop-i.i + 1) in
     let z = rest (goal.at.loop-i-preserved c).In-loop-i c.loop-i.i in (

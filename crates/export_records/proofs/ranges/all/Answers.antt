@@ -16,10 +16,10 @@ use Rattle.export_records.proofs.ranges.all.Goals.{In-loop-i}
 
 -- the range that the loop has come to, and those that are left
 abbrev this : In-loop-i → List Entry
-this c = let l = c.before in let a = (start_of l).args in range_entry (entry_at a.buf.now (a.first + 24 * l.loop.i)) ∷ []
+this c = let a = c.args in range_entry (entry_at a.buf.now (a.first + 24 * c.loop-i.i)) ∷ []
 
 abbrev rest : In-loop-i → ℕ → List Entry
-rest c i = let a = (start_of c.before).args in ranges_left a.buf.now a.first a.n i
+rest c i = let a = c.args in ranges_left a.buf.now a.first a.n i
 
 splits : (c : In-loop-i) → rest c c.loop-i.i ≡ this c ++ rest c (c.loop-i.i + 1)
 splits c = let a = c.args in ranges_split a.buf.now a.first a.n c.loop-i.i c.loop-i-test.true
@@ -36,7 +36,7 @@ pub loop-i-preserved : goal.loop-i-preserved
 loop-i-preserved c =
     let v = c.loop-i.invariant in
     let e = c.range-m.ensures in
-    let n = c.range-m.auto.1.1.0 in
+    let n = c.range-m.auto.out in
     let x = this (goal.at.loop-i-preserved c).In-loop-i in
     let y = rest (goal.at.loop-i-preserved c).In-loop-i (c.loop-i.i + 1) in
     let z = rest (goal.at.loop-i-preserved c).In-loop-i c.loop-i.i in (

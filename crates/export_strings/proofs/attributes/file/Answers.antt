@@ -22,10 +22,10 @@ pub empty-requires : goal.empty-requires
 empty-requires c =
     let a = c.args in
     let m = module_at a.buf.now a.at in
-    bytes_rest a.out.now a.to (closed m.name) (closed []) (strings (file_entry m ∷ [])) (file_strings m) c.requires.at_in_bounds_2 _ _ c.text-meta.ensures c.text-meta.auto.1.1.1.0
+    bytes_rest a.out.now a.to (closed m.name) (closed []) (strings (file_entry m ∷ [])) (file_strings m) c.requires.at_in_bounds_2 _ _ c.text-meta.ensures c.text-meta.auto.out
 
 pub returns : goal.returns
 returns c =
     let a = c.args in
     let m = module_at a.buf.now a.at in
-    c.empty.ensures ∙ bytes_step a.out.now a.to (closed m.name) (closed []) (strings (file_entry m ∷ [])) (file_strings m) c.requires.at_in_bounds_2 _ _ c.text-meta.ensures c.text-meta.auto.1.1.1.0
+    c.empty.ensures ∙ bytes_step a.out.now a.to (closed m.name) (closed []) (strings (file_entry m ∷ [])) (file_strings m) c.requires.at_in_bounds_2 _ _ c.text-meta.ensures c.text-meta.auto.out

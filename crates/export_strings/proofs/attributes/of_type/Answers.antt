@@ -25,10 +25,10 @@ here c =
 
 -- its strings, and those that are left after them
 abbrev these : In-loop-i → List ℕ
-these c = let l = c.before in let a = (start_of l).args in strings (becomes a.buf.now l.loop.at a.kind)
+these c = let a = c.args in strings (becomes a.buf.now c.loop-i.at a.kind)
 
 abbrev rest : In-loop-i → ℕ → List ℕ
-rest c i = let l = c.before in let a = (start_of l).args in strings (left a.buf.now a.kind l.before.count.result i)
+rest c i = let a = c.args in strings (left a.buf.now a.kind c.count-count.result i)
 
 splits : (c : In-loop-i) → rest c c.loop-i.i ≡ these c ++ rest c (c.loop-i.i + 1)
 splits c =
@@ -58,7 +58,7 @@ pub loop-i-preserved : goal.loop-i-preserved
 loop-i-preserved c =
     let v = c.loop-i.invariant in
     let e = c.of_attribute-to.ensures in
-    let n = c.of_attribute-to.auto.1.1.1.0 in
+    let n = c.of_attribute-to.auto.out in
     let x = these (goal.at.loop-i-preserved c).In-loop-i in
     let y = rest (goal.at.loop-i-preserved c).In-loop-i (c.loop-i.i + 1) in
     let z = rest (goal.at.loop-i-preserved c).In-loop-i c.loop-i.i in (

@@ -14,13 +14,13 @@ use Rattle.handover_arguments.proofs.judge.check.Goals as goal
 use Rattle.handover_arguments.proofs.judge.check.Goals.{Else-count-gt1024, Else-not-all_strings, Else-not-ends, Else-not-ranges, Else-not-string_good}
 
 abbrev records_of_law : Else-count-gt1024 → List ℕ
-records_of_law c = (start_of c).args.records.now
+records_of_law c = c.args.records.now
 
 abbrev parts-of : Else-count-gt1024 → List ℕ
-parts-of c = (start_of c).args.parts.now
+parts-of c = c.args.parts.now
 
 abbrev run_of : Else-count-gt1024 → List ℕ
-run_of c = (start_of c).args.run.now
+run_of c = c.args.run.now
 
 -- what each test has shown after it
 ended : (c : Else-not-ends) → let rs = records_of_law c.before.before in every (end_good rs (count_given rs)) (count_given rs) ≡ true

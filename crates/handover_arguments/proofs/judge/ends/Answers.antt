@@ -20,10 +20,10 @@ pub loop-i-init : goal.loop-i-init
 loop-i-init c = (search rules, every_none _)
 
 pub returns-then-not-end_suits : goal.returns-then-not-end_suits
-returns-then-not-end_suits c = every_stop _ _ _ c.loop-i-test.taken (failed (said (goal.at.returns-then-not-end_suits c).After-end_suits) c.if-not-end_suits.true-raw)
+returns-then-not-end_suits c = every_stop _ _ _ c.loop-i-test.true (failed (said (goal.at.returns-then-not-end_suits c).After-end_suits) c.if-not-end_suits.true-raw)
 
 pub loop-i-preserved : goal.loop-i-preserved
-loop-i-preserved c = let l = c.loop-i in (search rules, every_more _ _ l.inv.1 (held (said (goal.at.loop-i-preserved c).After-end_suits) c.if-not-end_suits.false-raw))
+loop-i-preserved c = let l = c.loop-i in (search rules, every_more _ _ l.invariant.1 (held (said (goal.at.loop-i-preserved c).After-end_suits) c.if-not-end_suits.false-raw))
 
 pub returns : goal.returns
 returns c = let l = c.loop-i in let q : l.i ≡ c.args.count = omega arith in sym (rw q at l.invariant.1)

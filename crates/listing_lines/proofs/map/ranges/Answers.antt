@@ -27,7 +27,7 @@ pub loop-i-preserved : goal.loop-i-preserved
 loop-i-preserved c =
     let a = c.args in (
       omega arith,
-      c.range-end.auto.0 ∙ c.loop-i.invariant.1,
+      c.range-end.auto.out ∙ c.loop-i.invariant.1,
       range_next a.buf.now a.at a.n c.loop-i.i _ _ c.loop-i-test.true c.range-end.ensures ∙ c.loop-i.invariant.2,
     )
 

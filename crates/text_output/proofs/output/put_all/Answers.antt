@@ -18,7 +18,7 @@ pub loop-i-preserved : goal.loop-i-preserved
 loop-i-preserved c =
     let a = c.args in (
       omega arith,
-      c.put-at.auto.0 ∙ c.loop-i.invariant.1,
+      c.put-at.auto.out ∙ c.loop-i.invariant.1,
       byte_next _ _ a.bytes.now c.loop-i.i c.loop-i-test.true c.put-at.ensures ∙ c.loop-i.invariant.2,
     )
 

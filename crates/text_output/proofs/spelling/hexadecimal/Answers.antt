@@ -18,7 +18,7 @@ pub loop-i-preserved : goal.loop-i-preserved
 loop-i-preserved c =
     let a = c.args in (
       omega arith,
-      c.hex_pair-at.auto.0 ∙ c.loop-i.invariant.1,
+      c.hex_pair-at.auto.out ∙ c.loop-i.invariant.1,
       bytes_next hex_pair _ _ a.bytes.now a.start a.n c.loop-i.i c.loop-i-test.true c.hex_pair-at.ensures ∙ c.loop-i.invariant.2,
     )
 

@@ -21,12 +21,12 @@ pub loop-i-preserved : goal.loop-i-preserved
 loop-i-preserved c =
     let a = c.args in (
       omega arith,
-      c.decimal-at-in-loop-i.auto.0 ∙ c.put-at.auto.0 ∙ c.loop-i.invariant.1,
+      c.decimal-at-in-loop-i.auto.out ∙ c.put-at.auto.out ∙ c.loop-i.invariant.1,
       list_next (after a.separator) _ _ a.numbers.now c.loop-i.i c.loop-i-test.true (byte_before _ _ _ a.separator _ c.put-at.ensures c.decimal-at-in-loop-i.ensures) ∙ c.loop-i.invariant.2,
     )
 
 pub shape_of-out : goal.shape_of-out
-shape_of-out c = c.loop-i.invariant.1 ∙ c.decimal-at.auto.0
+shape_of-out c = c.loop-i.invariant.1 ∙ c.decimal-at.auto.out
 
 pub returns : goal.returns
 returns c =

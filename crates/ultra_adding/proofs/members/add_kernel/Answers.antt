@@ -13,7 +13,7 @@ use Rattle.ultra_adding.proofs.members.add_kernel.Goals as goal
 use Rattle.ultra_adding.proofs.members.add_kernel.Goals.{After-raise_count-answer, In-Done, Start}
 
 abbrev body : Start → Body
-body s = kernel_of s.args.phys s.args.virt s.args.size s.args.partition-type s.args.disk.now s.args.partition.now s.args.disk-index s.args.partition-index s.args.path.now
+body s = kernel_of c.args.phys c.args.virt c.args.size c.args.partition_type c.args.disk.now c.args.partition.now c.args.disk_index c.args.partition_index c.args.path.now
 
 add : (c : After-raise_count-answer)
     → Adds c.args.buf.now c.raise_count-answer.new.buf (guids_formed c.args.disk.now c.args.partition.now) (body c.before.before.before.before.before.before.before) c.raise_count-answer.result 336

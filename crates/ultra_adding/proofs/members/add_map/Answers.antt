@@ -13,7 +13,7 @@ use Rattle.ultra_adding.proofs.members.add_map.Goals as goal
 use Rattle.ultra_adding.proofs.members.add_map.Goals.{After-raise_count-answer, In-Done}
 
 abbrev bytes : After-raise_count-answer → List ℕ
-bytes c = (start c).args.entries.now
+bytes c = c.args.entries.now
 
 add : (c : After-raise_count-answer) → Adds c.args.buf.now c.raise_count-answer.new.buf (map_formed (bytes c)) (map_of (bytes c)) c.raise_count-answer.result (8 + length (bytes c) / 24 * 24)
 add c = adds c.raise_count-answer.ensures refl c.bytes_check-number.ensures (omega (arith, map_given_size (bytes c)))

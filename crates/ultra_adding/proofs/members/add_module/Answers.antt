@@ -14,7 +14,7 @@ use Rattle.ultra_adding.proofs.members.add_module.Goals as goal
 use Rattle.ultra_adding.proofs.members.add_module.Goals.{After-raise_count-answer, In-Done, Start}
 
 abbrev body : Start → Body
-body s = module_of s.args.kind s.args.name.now s.args.address s.args.size
+body s = module_of c.args.kind c.args.name.now c.args.address c.args.size
 
 add : (c : After-raise_count-answer) → Adds c.args.buf.now c.raise_count-answer.new.buf true (body c) c.raise_count-answer.result 96
 unfolding written_size size_suits values texts ranges ordered

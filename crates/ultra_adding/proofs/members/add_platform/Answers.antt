@@ -13,7 +13,7 @@ use Rattle.ultra_adding.proofs.members.add_platform.Goals as goal
 use Rattle.ultra_adding.proofs.members.add_platform.Goals.{After-raise_count-answer, In-Done, Start}
 
 abbrev body : Start → Body
-body s = platform_of s.args.kind s.args.major s.args.minor s.args.name.now s.args.rsdp s.args.base s.args.depth s.args.dtb s.args.smbios
+body s = platform_of c.args.kind c.args.major c.args.minor c.args.name.now c.args.rsdp c.args.base c.args.depth c.args.dtb c.args.smbios
 
 add : (c : After-raise_count-answer) → Adds c.args.buf.now c.raise_count-answer.new.buf c.args.complete (body c) c.raise_count-answer.result 88
 unfolding written_size size_suits values texts ranges ordered

@@ -12,7 +12,7 @@ returns c =
     c.check.ensures
     ∙ (λ i. member_check
     (c.guids_formed-form.ensures i)
-    (kernel_values a.phys a.virt a.size a.partition-type)
+    (kernel_values a.phys a.virt a.size a.partition_type)
     (c.path-text.ensures i)
     (range_fits a.phys a.size && range_fits a.virt a.size)
     true)

@@ -59,7 +59,7 @@ loop-i-preserved c =
     let e = lines_at b c.loop-i.i c.loop-i.at c.size-size.result c.kind-kind.result c.loop-i.invariant.0 (size (goal.at.loop-i-preserved c).After-size-size) (kind (goal.at.loop-i-preserved c).After-kind-kind) in (
       omega (arith, c.size-size.ensures, (here (goal.at.loop-i-preserved c).In-loop-i).reached.next),
       omega arith,
-      c.attribute-end.auto.0 ∙ c.loop-i.invariant.2,
+      c.attribute-end.auto.out ∙ c.loop-i.invariant.2,
       attribute_next b c.count-count.result c.loop-i.i _ _ c.loop-i-test.true
           (c.attribute-end.ensures ∙ ap (λ (ls : List Line). put_lines (c.loop-i.out, c.loop-i.end) ls) e)
           ∙ c.loop-i.invariant.3,

@@ -31,8 +31,8 @@ pub returns : goal.returns
 unfolding written_size width
 returns c =
     let a = c.args in
-    let s0 = begun a.part.now (platform_leading a.kind a.loader-major a.loader-minor a.name.now a.rsdp) c.leading.ensures in
-    let s1 = next (number 8 a.higher-half-base) s0 c.store_u64.ensures in
+    let s0 = begun a.part.now (platform_leading a.kind a.loader_major a.loader_minor a.name.now a.rsdp) c.leading.ensures in
+    let s1 = next (number 8 a.higher_half_base) s0 c.store_u64.ensures in
     let s2 = next (number 1 a.depth) s1 (byte_stored c.store_u64.new.bytes 64 a.depth (omega (arith, c.ranges.depth)) (search rules)) in
     let s3 = next (padding 7) s2 c.clear.ensures in
     let s4 = next (number 8 a.dtb) s3 c.store_u64-2.ensures in
