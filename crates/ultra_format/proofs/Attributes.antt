@@ -1,6 +1,6 @@
 -- Layout and decoding agree on attributes in a row, each as wide as its size.
 use Prim.Native.Nat.{ℕ, zero, suc, ◌+◌, ◌-◌, ◌%◌, ◌≤◌, ◌<◌}
-use mathlib.Core.Path.{◌≡◌, refl, sym, ap₂, ◌∙◌}
+use mathlib.Core.Path.{◌≡◌, refl, sym, subst, ap₂, ◌∙◌}
 use mathlib.Core.Bool.{true}
 use mathlib.Core.List.{List, [], ◌∷◌}
 use native.Mathlib.Omega.{arith}
@@ -75,7 +75,8 @@ module _ (b : List ℕ) where
       shift b o j (o + j + 0) 0 (attribute_fields a) (omega arith) (holds_front b o j (j + a.size) (attribute_fields a) (attributes_fields l) (omega (arith, z 0 k)) h).0
   each (a ∷ l) o j z h (suc i) k =
       let q : o + j + (a.size + total (take i l)) ≡ o + (j + a.size) + total (take i l) = omega arith in
-      rw q (each l o (j + a.size) (λ n m. z (suc n) (omega arith)) (holds_front b o j (j + a.size) (attribute_fields a) (attributes_fields l) (omega (arith, z 0 (omega arith))) h).1 i (le_of_suc-le-suc k))
+      subst (λ (x : ℕ). Holds b x 0 (attribute_fields (at l i))) (sym q)
+      (each l o (j + a.size) (λ n m. z (suc n) (omega arith)) (holds_front b o j (j + a.size) (attribute_fields a) (attributes_fields l) (omega (arith, z 0 (omega arith))) h).1 i (le_of_suc-le-suc k))
 
   all : (l : List Attribute) (o j : ℕ) → Sized l
       → ((i : ℕ) → i < length l → Holds b (o + j + total (take i l)) 0 (attribute_fields (at l i))) → Holds b o j (attributes_fields l)
@@ -86,7 +87,7 @@ module _ (b : List ℕ) where
       (shift b (o + j + 0) 0 o j (attribute_fields a) (omega arith) (h 0 (omega arith)))
       (all l o (j + a.size) (λ n m. z (suc n) (omega arith)) (λ i k.
       let q : o + j + (a.size + total (take i l)) ≡ o + (j + a.size) + total (take i l) = omega arith in
-      rw q at (h (suc i) (omega arith))))
+      subst (λ (x : ℕ). Holds b x 0 (attribute_fields (at l i))) q (h (suc i) (omega arith))))
 
 -- ---- a context
 pub sized : {fewest room : ℕ} {c : Context} → Meets fewest room c → Sized c.attributes

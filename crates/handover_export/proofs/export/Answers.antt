@@ -18,7 +18,7 @@ use Rattle.handover_export.proofs.export.Goals.{After-check-number, After-payloa
 
 -- after the `let .. else`, reading has accepted the buffer
 abbrev accepts : (c : In-Done) → Accepts c.args.buf.now
-accepts c = (_, sym c.used_length-answer.ensures ∙ c.enum_told-1.type_inv.1)
+accepts c = (_, sym c.used_length-answer.ensures ∙ c.in-Done.is)
 
 counts : (c : After-payload-payload) → c.payload-payload.result.count ≡ length (entries_of 0 0 (context_of (start_of c).args.buf.now).attributes)
 counts c = count_is (agent_of (context_of (start_of c).args.buf.now)) _ _ c.payload-payload.ensures.0
@@ -39,7 +39,7 @@ fits c = none_given _ _ _ _ _ (sym c.check-number.ensures ∙ c.if-number-ne0.fa
 pub returns-in_default : goal.returns-in_default
 returns-in_default c =
     let a = c.args in
-    let e = c.enum_told-in_default-1.type_inv.1 in
+    let e = c.in_default.is in
     ap (λ (x : Answer). (x, a.out.now)) e ∙ unread a.buf.now a.load a.out.now _ (sym c.used_length-answer.ensures ∙ e)
 
 pub payload-payload-requires : goal.payload-payload-requires

@@ -22,7 +22,7 @@ done c = sym c.read-answer.ensures ∙ c.answer-1.type_inv.1
 
 pub returns-in_default : goal.returns-in_default
 returns-in_default c =
-    let e = c.enum_told-1.type_inv.1 in
+    let e = c.in_default.is in
     c.no_agent.ensures ∙ ap agent_refused e ∙ agent_passed _ _ (sym c.read-answer.ensures ∙ e)
 
 pub load_u32-offset-requires : goal.load_u32-offset-requires

@@ -22,7 +22,7 @@ done c = sym c.read-answer.ensures ∙ c.answer-1.type_inv.1
 pub returns-in_default : goal.returns-in_default
 returns-in_default c =
     let s = c.args in
-    let e = c.enum_told-1.type_inv.1 in
+    let e = c.in_default.is in
     e ∙ index_passed s.buf.now s.index _ (sym c.read-answer.ensures ∙ e)
 
 pub load_u32-requires : goal.load_u32-requires

@@ -29,7 +29,7 @@ here c = found _ _ _ (done c)
 pub returns-in_default : goal.returns-in_default
 returns-in_default c =
     let s = c.args in
-    let e = c.enum_told-1.type_inv.1 in
+    let e = c.in_default.is in
     c.no_answer.ensures ∙ ap record_refused e ∙ record_passed s.buf.now s.index _ (sym c.indexed-answer.ensures ∙ e)
 
 pub load_u32-requires : goal.load_u32-requires

@@ -13,8 +13,8 @@ use Rattle.handover_reading.proofs.body.Goals.{After-closes, In-Done}
 
 -- after the `let .. else` the records have passed
 done : (c : In-Done) → let a = c.args in
-    each_of (record_check a.buf.now a.count) a.size 0 a.count ≡ Done c.enum_told-1.type_inv.0.0
-done c = sym c.each-answer.ensures ∙ c.enum_told-1.type_inv.1
+    each_of (record_check a.buf.now a.count) a.size 0 a.count ≡ Done c.in-Done.field-0
+done c = sym c.in-Done.ensures
 
 -- what the test answers of the agent that was loaded
 agent : (c : After-closes) → let a = c.args in
@@ -22,7 +22,7 @@ agent : (c : After-closes) → let a = c.args in
 agent c = sym (c.closes.ensures ∙ ap (closes _ _ _) c.load_u32.ensures)
 
 pub returns-in_default : goal.returns-in_default
-returns-in_default c = let e = c.enum_told-in_default-1.type_inv.1 in e ∙ body_refused _ _ _ _ (sym c.each-answer.ensures ∙ e)
+returns-in_default c = c.in_default.is ∙ body_refused _ _ _ _ (sym c.each-answer.ensures ∙ c.in_default.is)
 
 pub returns-then-not-closes : goal.returns-then-not-closes
 returns-then-not-closes c =

@@ -12,7 +12,7 @@ was : (c : In-Done) → used_length 0 c.args.buf.now ≡ Done c.answer-1.type_in
 was c = sym c.used_length-answer.ensures ∙ c.answer-1.type_inv.1
 
 pub returns-in_default : goal.returns-in_default
-returns-in_default c = unread _ _ _ _ _ _ c.used_length-answer.ensures c.enum_told-1.type_inv.1
+returns-in_default c = unread _ _ _ _ _ _ c.used_length-answer.ensures c.in_default.is
 
 pub check-number-requires : goal.check-number-requires
 check-number-requires c = record { buf_value = was (goal.at.check-number-requires c).In-Done; le_kind = c.requires }

@@ -7,11 +7,11 @@ use Rattle.ultra_appending.proofs.raise_count.Goals as goal
 use Rattle.ultra_appending.proofs.raise_count.Goals.{In-Done}
 
 -- the offset was found in a buffer that was read
-read : (c : In-Done) → Read c.args.buf.now c.enum_told-1.type_inv.0.0
-read c = was_read _ _ (appended_at _ _ _ _ _ (sym c.offset-answer.ensures ∙ c.enum_told-1.type_inv.1)).0
+read : (c : In-Done) → Read c.args.buf.now c.in-Done.field-0
+read c = was_read _ _ (appended_at _ _ _ _ _ (sym c.offset-answer.ensures ∙ c.in-Done.is)).0
 
 pub returns-in_default : goal.returns-in_default
-returns-in_default c = raise_refused _ _ _ _ _ _ c.enum_told-in_default-1.type_inv.1 c.offset-answer.ensures
+returns-in_default c = raise_refused _ _ _ _ _ _ c.in_default.is c.offset-answer.ensures
 
 pub load_u32-count-requires : goal.load_u32-count-requires
 load_u32-count-requires c = omega (arith, read (goal.at.load_u32-count-requires c).In-Done-1)
@@ -24,4 +24,4 @@ store_u32-requires c = omega (arith, read (goal.at.store_u32-requires c).In-Done
 
 pub returns : goal.returns
 returns c =
-    raise_done _ _ _ _ _ _ _ _ c.enum_told-1.type_inv.1 c.offset-answer.ensures c.load_u32-count.ensures c.store_u32.ensures
+    raise_done _ _ _ _ _ _ _ _ c.in-Done.is c.offset-answer.ensures c.load_u32-count.ensures c.store_u32.ensures

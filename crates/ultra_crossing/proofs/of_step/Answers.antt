@@ -9,7 +9,7 @@ pub returns-in-Attribute : goal.returns-in-Attribute
 returns-in-Attribute c = sym (zero-add _) ∙ sym (ap step_crossed c.step-1.type_inv.1)
 
 pub returns-in-End : goal.returns-in-End
-returns-in-End c = sym (ap step_crossed c.enum_told-1.type_inv.1)
+returns-in-End c = sym (ap step_crossed c.in-End.is)
 
 pub returns-in-Refused : goal.returns-in-Refused
 returns-in-Refused c = c.of_refusal.ensures ∙ sym (ap step_crossed c.step-in-Refused-1.type_inv.1)

@@ -26,7 +26,7 @@ entries c = c.entries_at-entries.ensures ∙ ap (entries_stored c.args.buf.now) 
 
 pub returns-in_default : goal.returns-in_default
 returns-in_default c =
-    let e = c.enum_told-1.type_inv.1 in
+    let e = c.in_default.is in
     c.no_numbers.ensures ∙ ap no_numbers e ∙ numbers_passed _ _ (sym c.used_length-answer.ensures ∙ e)
 
 pub first_of_type-start-requires : goal.first_of_type-start-requires

@@ -13,27 +13,18 @@ use Rattle.handover_arguments.proofs.JudgeLaws.{stop_none, stop_many, stop_end, 
 use Rattle.handover_arguments.proofs.judge.check.Goals as goal
 use Rattle.handover_arguments.proofs.judge.check.Goals.{Else-count-gt1024, Else-not-all_strings, Else-not-ends, Else-not-ranges, Else-not-string_good}
 
-abbrev records_of_law : Else-count-gt1024 → List ℕ
-records_of_law c = c.args.records.now
-
-abbrev parts-of : Else-count-gt1024 → List ℕ
-parts-of c = c.args.parts.now
-
-abbrev run_of : Else-count-gt1024 → List ℕ
-run_of c = c.args.run.now
-
 -- what each test has shown after it
-ended : (c : Else-not-ends) → let rs = records_of_law c.before.before in every (end_good rs (count_given rs)) (count_given rs) ≡ true
+ended : (c : Else-not-ends) → let rs = c.args.records.now in every (end_good rs (count_given rs)) (count_given rs) ≡ true
 ended c = held c.ends.ensures c.if-not-ends.false-raw
 
-ranged : (c : Else-not-ranges) → let rs = records_of_law c.before.before.before.before in every (range_good rs) (count_given rs) ≡ true
+ranged : (c : Else-not-ranges) → let rs = c.args.records.now in every (range_good rs) (count_given rs) ≡ true
 ranged c = held c.ranges-2.ensures c.if-not-ranges.false-raw
 
-agent : (c : Else-not-string_good) → string_good (parts-of c.before.before.before.before.before.before) (run_of c.before.before.before.before.before.before) agent_part ≡ true
+agent : (c : Else-not-string_good) → string_good c.args.parts.now c.args.run.now agent_part ≡ true
 unfolding if_named
 agent c = held c.string_good.ensures c.if-not-string_good.false-raw
 
-strings : (c : Else-not-all_strings) → every (strings_good (records_of_law c.before.before.before.before.before.before.before.before) (parts-of c.before.before.before.before.before.before.before.before) (run_of c.before.before.before.before.before.before.before.before)) (count_given (records_of_law c.before.before.before.before.before.before.before.before)) ≡ true
+strings : (c : Else-not-all_strings) → every (strings_good c.args.records.now c.args.parts.now c.args.run.now) (count_given c.args.records.now) ≡ true
 strings c = held c.all_strings.ensures c.if-not-all_strings.false-raw
 
 low : (c : Else-not-all_strings) → c.args.room ≤ 65536

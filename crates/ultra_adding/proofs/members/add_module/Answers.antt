@@ -24,7 +24,7 @@ here : (c : In-Done) → Space c.raise_count-answer.new.buf c.answer-1.type_inv.
 here c = (add c.before.before.before.before.before).space c.answer-1.type_inv.1
 
 pub returns-in_default : goal.returns-in_default
-returns-in_default c = (add (goal.at.returns-in_default c).After-raise_count-answer).refused c.enum_told-1.type_inv.1
+returns-in_default c = (add (goal.at.returns-in_default c).After-raise_count-answer).refused c.in_default.is
 
 pub slice_bounds-write-count : goal.slice_bounds-write-count
 slice_bounds-write-count c = omega (arith, here (goal.at.slice_bounds-write-count c).In-Done)

@@ -28,7 +28,7 @@ suits c = rw (c.load_u32-size.ensures, c.load_u32-kind.ensures) (here c.before.b
 pub returns-in_default : goal.returns-in_default
 returns-in_default c =
     let s = c.args in
-    let e = c.enum_told-1.type_inv.1 in
+    let e = c.in_default.is in
     c.unanswered.ensures ∙ ap unanswered e ∙ answer_passed s.buf.now s.index (sym c.attribute_start-answer.ensures ∙ e)
 
 pub load_u32-kind-requires : goal.load_u32-kind-requires

@@ -13,7 +13,7 @@ use Rattle.ultra_questions.proofs.line.command_line_part.Goals.{After-load_u32-s
 
 -- after the `let .. else`, reading has accepted the buffer
 abbrev accepts : (c : In-Done) → Accepts c.args.buf.now
-accepts c = (_, sym c.used_length-answer.ensures ∙ c.enum_told-1.type_inv.1)
+accepts c = (_, sym c.used_length-answer.ensures ∙ c.in-Done.is)
 
 -- there is a command line, at `start`
 line : (c : Else-start-eq0) → FirstOfType c.args.buf.now 5 c.first_of_type-start.result
@@ -27,7 +27,7 @@ body c = let l = line c.before in rw c.load_u32-size.ensures (rw l.type_is at l.
 
 pub returns-in_default : goal.returns-in_default
 returns-in_default c =
-    c.no_part.ensures ∙ line_passed c.args.buf.now (sym c.used_length-answer.ensures ∙ c.enum_told-in_default-1.type_inv.1)
+    c.no_part.ensures ∙ line_passed c.args.buf.now (sym c.used_length-answer.ensures ∙ c.in_default.is)
 
 pub first_of_type-start-requires : goal.first_of_type-start-requires
 first_of_type-start-requires c = accepts (goal.at.first_of_type-start-requires c).In-Done

@@ -9,12 +9,12 @@ use Rattle.ultra_questions.proofs.module.module_holding.Goals.{In-Done}
 
 -- after the `let .. else`, reading has accepted the buffer
 abbrev accepts : (c : In-Done) → Accepts c.args.buf.now
-accepts c = (_, sym c.used_length-answer.ensures ∙ c.enum_told-1.type_inv.1)
+accepts c = (_, sym c.used_length-answer.ensures ∙ c.in-Done.is)
 
 pub returns-in_default : goal.returns-in_default
 returns-in_default c =
     let s = c.args in
-    let e = c.enum_told-in_default-1.type_inv.1 in
+    let e = c.in_default.is in
     e ∙ module_passed s.buf.now s.address (sym c.used_length-answer.ensures ∙ e)
 
 pub first_holding-requires : goal.first_holding-requires
