@@ -25,7 +25,10 @@ said : (c : After-check-check) → let a = c.args in c.check-check.result ≡ wr
 said c = c.check-check.ensures ∙ ap (write_check _ _ _) c.room.ensures
 
 good : (c : Else-check-ne0) → let a = c.args in Judged a.records.now a.parts.now a.run.now (room_of a.buf.now)
-good c = judged _ _ _ _ (sym (said c.before) ∙ c.if-check-ne0.false)
+good c =
+    let said' : (let a = c.args in c.check-check.result ≡ write_check a.records.now a.parts.now a.run.now (room_of a.buf.now)) =
+c.check-check.ensures ∙ ap (write_check _ _ _) c.room.ensures in
+    judged _ _ _ _ (sym said' ∙ c.if-check-ne0.false)
 
 -- the size by numbers, and by the parts that are stored
 fits : (c : Else-check-ne0) → let a = c.args in
@@ -45,7 +48,18 @@ fits c =
 -- what is answered as the size is it
 sized : (c : After-size-size) → let a = c.args in
     c.size-size.result ≡ payload_size (agent_given a.parts.now a.run.now) (entries_given a.records.now a.parts.now a.run.now)
-sized c = omega (arith, c.size-size.ensures, (fits c.before).0, (good c.before).within)
+sized c =
+    let good' : (let a = c.args in Judged a.records.now a.parts.now a.run.now (room_of a.buf.now)) =
+let said' : (let a = c.args in c.check-check.result ≡ write_check a.records.now a.parts.now a.run.now (room_of a.buf.now)) =
+c.check-check.ensures ∙ ap (write_check _ _ _) c.room.ensures in
+    judged _ _ _ _ (sym said' ∙ c.if-check-ne0.false) in
+    let fits' : (let a = c.args in let rs = a.records.now in let ps = a.parts.now in let run = a.run.now in let size = payload_size (agent_given ps run) (entries_given rs ps run) in (size ≡ record_start (count_given rs) + strings_start rs ps (count_given rs)) × (size ≡ record_start (count_given rs) + length (closed (agent_given ps run) ++ strings (entries_given rs ps run)))) =
+let a = c.args in
+    let rs = a.records.now in
+    let ps = a.parts.now in
+    let run = a.run.now in
+    (size_given_law rs ps run, ap (λ (n : ℕ). record_start n + length (closed (agent_given ps run) ++ strings (entries_given rs ps run))) (length_entries rs ps run 0 (count_given rs))) in
+    omega (arith, c.size-size.ensures, fits'.0, good'.within)
 
 pub returns-then-check-ne0 : goal.returns-then-check-ne0
 returns-then-check-ne0 c =

@@ -18,7 +18,11 @@ unfolding body_given written_size
 add c = adds c.raise_count-answer.ensures refl c.check-number.ensures refl
 
 here : (c : In-Done) → Space c.raise_count-answer.new.buf c.answer-1.type_inv.0.0 32
-here c = (add c.before.before.before.before.before).space c.answer-1.type_inv.1
+unfolding body_given written_size
+here c =
+    let add' : Adds c.args.buf.now c.raise_count-answer.new.buf true (body c) c.raise_count-answer.result 32 =
+adds c.raise_count-answer.ensures refl c.check-number.ensures refl in
+    add'.space c.answer-1.type_inv.1
 
 pub returns-in_default : goal.returns-in_default
 returns-in_default c = (add (goal.at.returns-in_default c).After-raise_count-answer).refused c.in_default.is

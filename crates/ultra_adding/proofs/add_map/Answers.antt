@@ -17,7 +17,11 @@ add c = adds c.raise_count-answer.ensures refl c.check-number.ensures c.size-siz
 
 here : (c : In-Done)
     → Space c.raise_count-answer.new.buf c.answer-1.type_inv.0.0 c.size-size.result
-here c = (add c.before.before.before.before.before).space c.answer-1.type_inv.1
+unfolding body_given
+here c =
+    let add' : Adds c.args.buf.now c.raise_count-answer.new.buf (formed (map c)) (body_given (map c)) c.raise_count-answer.result c.size-size.result =
+adds c.raise_count-answer.ensures refl c.check-number.ensures c.size-size.ensures in
+    add'.space c.answer-1.type_inv.1
 
 pub returns-in_default : goal.returns-in_default
 returns-in_default c = (add (goal.at.returns-in_default c).After-raise_count-answer).refused c.in_default.is

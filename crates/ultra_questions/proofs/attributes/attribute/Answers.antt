@@ -23,7 +23,10 @@ here c = let k = said c in loaded _ k.accepts _ _ k.below k.is
 -- its size suits its type
 suits : (c : After-load_u32-size)
     → size_suits c.load_u32-size.result (decoded c.args.buf.now c.answer-1.type_inv.0.0 c.load_u32-size.result c.load_u32-kind.result) ≡ true
-suits c = rw (c.load_u32-size.ensures, c.load_u32-kind.ensures) (here c.before.before).suits
+suits c =
+    let here' : (let s = c.args in Loaded s.buf.now s.index c.answer-1.type_inv.0.0) =
+let k = said c in loaded _ k.accepts _ _ k.below k.is in
+    rw (c.load_u32-size.ensures, c.load_u32-kind.ensures) here'.suits
 
 pub returns-in_default : goal.returns-in_default
 returns-in_default c =

@@ -17,13 +17,21 @@ accepts c = (_, sym c.used_length-answer.ensures ∙ c.in-Done.is)
 
 -- there is a command line, at `start`
 line : (c : Else-start-eq0) → FirstOfType c.args.buf.now 5 c.first_of_type-start.result
-line c = first_of _ 5 _ (accepts c.before.before) c.first_of_type-start.ensures c.if-start-eq0.false
+line c =
+    let accepts' : Accepts c.args.buf.now =
+(_, sym c.used_length-answer.ensures ∙ c.in-Done.is) in
+    first_of _ 5 _ accepts' c.first_of_type-start.ensures c.if-start-eq0.false
 
 -- its body is that of a command line
 body : (c : After-load_u32-size)
     → let b = c.args.buf.now in
     decoded b c.first_of_type-start.result c.load_u32-size.result 5 ≡ (stored_attribute b (line c.before).found.index).body
-body c = let l = line c.before in rw c.load_u32-size.ensures (rw l.type_is at l.here.body_is)
+body c =
+    let line' : FirstOfType c.args.buf.now 5 c.first_of_type-start.result =
+let accepts' : Accepts c.args.buf.now =
+(_, sym c.used_length-answer.ensures ∙ c.in-Done.is) in
+    first_of _ 5 _ accepts' c.first_of_type-start.ensures c.if-start-eq0.false in
+    let l = line' in rw c.load_u32-size.ensures (rw l.type_is at l.here.body_is)
 
 pub returns-in_default : goal.returns-in_default
 returns-in_default c =

@@ -22,11 +22,13 @@ here c =
 tested : (c : After-holds)
     → c.holds.result ≡ holding c.args.address (stored_attribute c.args.buf.now c.loop-i.i).body
 tested c =
+    let here' : Loaded c.args.buf.now c.loop-i.i c.loop-i.at =
+loaded c.args.buf.now c.requires c.loop-i.i _ (omega (arith, c.load_u32-count.ensures)) c.loop-i.invariant.0 in
     let s = c.args in
     let b = s.buf.now in
     c.holds.ensures
     ∙ ap (λ (n : ℕ). holding s.address (decoded b c.loop-i.at n (u32_at b c.loop-i.at))) c.load_u32-size.ensures
-    ∙ ap (holding s.address) (here c.before.before).body_is
+    ∙ ap (holding s.address) here'.body_is
 
 pub load_u32-count-requires : goal.load_u32-count-requires
 load_u32-count-requires c = omega (arith, head_inside c.args.buf.now c.requires)
