@@ -32,7 +32,7 @@ HISTORY = ("docs/CHANGES.md", "docs/PORT.md")
 PROMISES, CALLS, HEADER, LISTING = "docs/PROMISES.md", "docs/CALLS.md", "include/ultra.h", "samples/listing.txt"
 QUOTES, NUMBERS = "crates/refusals/specs/Refusals.antt", "crates/refusals/src/lib.rt"
 # Words in backticks that no file here gives: of the languages, of tools, of the listing, of an example's contract.
-FOREIGN = set("requires ensures pub const type rt strlen black_box GLIBC_TUNABLES ultra-list cmdline half result len".split())
+FOREIGN = set("requires ensures pub const type rt strlen black_box GLIBC_TUNABLES ultra-list cmdline half r result len".split())
 # What stands for any name, in a path.
 ANY = re.compile(r"\b(?:NAME|LABEL|FUNCTION)")
 FILE = re.compile(r"(?<![\w.-])(?:[\w-]+/)*[\w-]+\.(?:antt|rt|rs|py|mk|sh|c|h|md|bin|txt|edit)\b")
