@@ -18,7 +18,7 @@ help:
 	@echo '  make call-driver          target/bin/call_driver, by which a program in any language makes every call'
 	@echo 'Check it'
 	@echo '  make tools                which tools are needed, and are they there'
-	@echo '  make test                 the gate: prove all from nothing, try the wrong programs, run every test'
+	@echo '  make test                 the gate: prove all, try the wrong programs, run every test'
 	@echo '  make tests                the tests without the proofs'
 	@echo '  make compare              every call beside the independent implementation; N=.. and N_DRIVEN=.. inputs, toward C and of Rattle'
 	@echo '  make fuzz SECONDS=..      the archive under libFuzzer'
