@@ -18,7 +18,7 @@ help:
 	@echo '  make call-driver          target/bin/call_driver, by which a program in any language makes every call'
 	@echo 'Check it'
 	@echo '  make tools                which tools are needed, and are they there'
-	@echo '  make test                 the gate: prove all from nothing, try the wrong programs, run every test'
+	@echo '  make test                 the gate: prove all, try the wrong programs, run every test'
 	@echo '  make tests                the tests without the proofs'
 	@echo '  make compare              every call beside the independent implementation; N=.. and N_DRIVEN=.. inputs, toward C and of Rattle'
 	@echo '  make fuzz SECONDS=..      the archive under libFuzzer'
@@ -65,19 +65,19 @@ figures: need-python3
 ULTRA_SOURCES := crates.txt $(shell find crates -type f \( -path '*/src/*' -o -path '*/specs/*' -o -path '*/proofs/*' \))
 
 target/bin/list_context: $(ULTRA_SOURCES)
-	@tests/prove.sh $@ target/list_program.log check list_context
+	@tests/prove.sh $@ target/list_program.log list_context
 
 target/bin/export_context: $(ULTRA_SOURCES)
-	@tests/prove.sh $@ target/export_program.log check export_context
+	@tests/prove.sh $@ target/export_program.log export_context
 
 target/bin/call_driver: $(ULTRA_SOURCES)
-	@tests/prove.sh $@ target/call_driver.log check call_driver
+	@tests/prove.sh $@ target/call_driver.log call_driver
 
 target/staticlib/libultra.a: $(ULTRA_SOURCES)
-	@tests/prove.sh $@ target/archive.log staticlib ultra
+	@tests/prove.sh $@ target/archive.log ultra
 
 target/staticlib/libstack_probe.a: $(ULTRA_SOURCES)
-	@tests/prove.sh $@ target/stack_probe.log staticlib stack_probe
+	@tests/prove.sh $@ target/stack_probe.log stack_probe
 
 # Nothing is said where there is nothing to do.
 list-program: target/bin/list_context
@@ -106,11 +106,11 @@ test:
 # The proofs without starting from nothing, and without the must-fail edits.
 check:
 	@tests/tools.sh rt
-	rt check
+	rt all check
 
 format:
 	@tests/tools.sh rt
-	rt fmt
+	@for crate in crates/*/; do (cd "$$crate" && rt fmt) || exit 1; done
 
 # What no proof replaces: the archive and the programs, tested. The gate runs it after the proofs.
 tests: tools-there test-make test-published test-readme test-format test-handover test-traceability test-wrong-programs test-list test-samples \

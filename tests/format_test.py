@@ -108,10 +108,10 @@ class Tables(Case):
         self.wrong("the rules have", "8 TYPE", "7 OVERRUN")
         self.wrong("or that is not its name", "16 ORDER", "16 RANGE")
         self.wrong("`cases_reading: module at 4096` is refused as None", "module at 2048", "module at 4096")
-        self.wrong("no definition Members.bitsSuit", "`Members.framebufferValues`", "`Members.bitsSuit`")
-        self.wrong("no definition Ranges.pageAligned", "crates/address_ranges/specs", "crates/ranges/specs")
+        self.wrong("no definition Members.bits_suit", "`Members.framebuffer_values`", "`Members.bits_suit`")
+        self.wrong("no definition Ranges.page_aligned", "crates/address_ranges/specs", "crates/ranges/specs")
         self.wrong("no function ultra_map::ends_by", "`ultra_map::ends_by_next`", "`ultra_map::ends_by`")
-        self.wrong("no reads-all in crates/ultra_acceptance/proofs/Acceptance.antt", "`reads-exactly`", "`reads-all`")
+        self.wrong("no reads_all in crates/ultra_acceptance/proofs/Acceptance.antt", "`reads_exactly`", "`reads_all`")
 
 
 if __name__ == "__main__":

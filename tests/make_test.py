@@ -34,15 +34,18 @@ COMMAND_AND_PACKAGE = {
 USED = [command for command, _ in COMMAND_AND_PACKAGE.values()] + """cargo rustc sh echo env cat cmp cp date dirname basename find grep
     install mkdir mktemp mv rm sed sleep tail tee touch""".split()
 NEED_RT = ["list CONTEXT=samples/listing.bin", "archive", "call-driver", "install PREFIX=target/p", "check", "format", "test", "tests"]
+# The crates whose folders rt is called in, and their arguments and inputs.
+MADE_OF = ["ultra", "list_context", "call_driver"]
 PASSES = """
+echo 'rt: refusals: begins with what a check kept in elsewhere'
+echo 'rt: chose --jobs 2 for words'
 echo 'fn words::load: proved'
-echo 'rt: refusals proved (unchanged since it was last proved)'
-echo 'rt: words proved (3 s)'
 echo made >"$FILE"
-echo 'rt: ok, 2 crates proved'
+echo "rt: running $FILE; to give it other input, run that file yourself"
 """
 FAILS = """
-echo 'rt: words NOT PROVED (exit 1, 3 s)'
+echo 'rt: chose --jobs 2 for words'
+echo 'rt: the library words did not build, so nothing above it was checked'
 echo half >"$FILE"
 exit 1
 """
@@ -89,8 +92,12 @@ class MakeTest(unittest.TestCase):
 
     def rt_that(self, does, kit=KIT):
         """Puts an rt on the PATH; FILE is what it has to make."""
-        made = 'FILE=target/bin/${2:-none}; [ "$1" != staticlib ] || FILE=target/staticlib/libultra.a; mkdir -p target/bin target/staticlib'
-        write_program(self.own / "rt", f"[ $1 != version ] || {{ echo '{kit}'; exit; }}\necho $* >>{self.calls}\n{made}\n{does}")
+        for crate in MADE_OF:
+            (self.copy / "crates" / crate / "out").mkdir(parents=True, exist_ok=True)
+        made = 'CRATE=${PWD##*/}; FILE=out/$CRATE; [ "$1" != lib ] || FILE=out/lib$CRATE.a'
+        # Of a program that is run, standard output is the program's.
+        streams = "exec 3>&1; [ $1 != run ] || exec >&2"
+        write_program(self.own / "rt", f"[ $1 != version ] || {{ echo '{kit}'; exit; }}\n{made}\necho $CRATE: $* >>{self.calls}\n{streams}\n{does}")
 
     def run_it(self, command):
         """Runs a command of several words in the copy."""
@@ -156,7 +163,7 @@ class Missing(MakeTest):
         self.rt_that("exit 1")
         ran = self.run_it("make test")
         self.assertNotEqual(ran.returncode, 0)
-        self.assertEqual(self.calls_of_rt(), ["fmt --check"])
+        self.assertEqual(self.calls_of_rt(), ["copy: ci"])
 
 
 class Unfit(MakeTest):
@@ -210,10 +217,11 @@ class Made(MakeTest):
                 ran = self.run_it(f"make {target}")
                 self.assertEqual((ran.returncode, ran.stdout), (0, ""))
                 first = f"make: proving the crates that {file} is made of; from nothing this takes some minutes"
-                self.assertEqual(ran.stderr.splitlines(), [first, "rt: words proved (3 s)"])
+                self.assertEqual(ran.stderr.splitlines(), [first, "rt: proving words"])
+                self.assertEqual((self.copy / file).read_text(encoding="utf-8"), "made\n")
                 again = self.run_it(f"make {target}")
                 self.assertEqual((again.returncode, again.stdout, again.stderr), (0, "", ""))
-        self.assertEqual(self.calls_of_rt(), ["staticlib ultra", "check list_context", "check call_driver"])
+        self.assertEqual(self.calls_of_rt(), ["ultra: lib", "list_context: run --", "call_driver: run --"])
 
     def test_a_failure_is_passed_on_and_leaves_nothing(self):
         self.rt_that(FAILS)
@@ -222,16 +230,16 @@ class Made(MakeTest):
                 for _ in range(2):
                     ran = self.run_it(f"make {target}")
                     self.assertNotEqual(ran.returncode, 0)
-                    self.assertIn("rt: words NOT PROVED", ran.stderr)
+                    self.assertIn("rt: the library words did not build", ran.stderr)
                     log = re.search(r"not proved; (\S+) says why", ran.stderr).group(1)
-                    self.assertIn("NOT PROVED", (self.copy / log).read_text(encoding="utf-8"))
+                    self.assertIn("did not build", (self.copy / log).read_text(encoding="utf-8"))
                     self.assertFalse((self.copy / file).exists())
         self.assertEqual(len(self.calls_of_rt()), 6)
 
     def test_a_touched_source_starts_rt_again_and_says_nothing(self):
         self.rt_that(PASSES)
         self.run_it("make list-program")
-        self.rt_that("echo 'rt: words proved (unchanged since it was last proved)'\necho 'rt: ok, 1 crates proved'\n")
+        self.rt_that("echo 'rt: nothing has changed since the last proved build, by out/list_context.stamp, so nothing is checked now'\n")
         (self.copy / "crates.txt").touch()
         ran = self.run_it("make list-program")
         self.assertEqual((ran.returncode, ran.stdout, ran.stderr), (0, "", ""))
@@ -239,7 +247,7 @@ class Made(MakeTest):
         self.assertEqual(len(self.calls_of_rt()), 2)
 
     def test_a_source_that_is_changed_meanwhile_is_seen(self):
-        self.rt_that(PASSES + "sleep 0.1; touch crates.txt\n")
+        self.rt_that(PASSES + "sleep 0.1; touch ../../crates.txt\n")
         self.run_it("make archive")
         self.run_it("make archive")
         self.assertEqual(len(self.calls_of_rt()), 2)
@@ -248,14 +256,64 @@ class Made(MakeTest):
         self.rt_that("exit 0")
         ran = self.run_it("make archive")
         self.assertNotEqual(ran.returncode, 0)
-        self.assertIn("rt passed and made no target/staticlib/libultra.a", ran.stderr)
+        self.assertIn("rt passed and made no crates/ultra/out/libultra.a", ran.stderr)
 
-    def test_a_program_that_is_gone_is_proved_again(self):
-        stamp = self.copy / "target/stamp/list_context"
-        stamp.parent.mkdir(parents=True)
-        stamp.touch()
-        self.rt_that(f"[ -e {stamp} ] || echo made >\"$FILE\"\n")
+    def test_a_program_that_is_gone_is_made_again(self):
+        self.rt_that(PASSES)
+        self.run_it("make list-program")
+        (self.copy / "target/bin/list_context").unlink()
+        self.rt_that("exit 0")
         self.assertEqual(self.run_it("make list-program").returncode, 0)
+        self.assertEqual((self.copy / "target/bin/list_context").read_text(encoding="utf-8"), "made\n")
+
+    def test_a_program_is_run_on_what_stands_beside_its_source(self):
+        self.rt_that("cat >input; echo printed >&3" + PASSES)
+        crate = self.copy / "crates/list_context"
+        self.assertEqual(self.run_it("make list-program").returncode, 0)
+        self.assertEqual((crate / "input").read_text(encoding="utf-8"), "")
+        (crate / "stdin").write_text("given\n", encoding="utf-8")
+        (crate / "args").write_text("one\ntwo words\n", encoding="utf-8")
+        (self.copy / "crates.txt").touch()
+        ran = self.run_it("make list-program")
+        self.assertEqual((ran.returncode, ran.stdout), (0, ""))
+        self.assertNotIn("printed", (self.copy / "target/list_program.log").read_text(encoding="utf-8"))
+        self.assertEqual((crate / "input").read_text(encoding="utf-8"), "given\n")
+        self.assertEqual(self.calls_of_rt()[-1], "list_context: run -- one two words")
+
+
+class Gate(MakeTest):
+    """The gate goes on to the tests only where rt ci passed, no must-fail edit bad; and it ends with rt's last line."""
+
+    LAST = "2 passed, 0 failed"
+
+    def gate(self, line, ends=0):
+        """Runs the gate, where make notes that it was asked for the tests and does no more."""
+        self.rt_that(f"echo '{line}'\necho '{self.LAST}'\nexit {ends}\n")
+        write_program(self.own / "make", f"[ $1 = --version ] || echo make: $* >>{self.calls}\n")
+        return self.run_it(".ci/run")
+
+    def test_it_passes_where_no_edit_is_bad(self):
+        for line in ("rt: ok; handles allowed: none; must-fail edits: 30 refused; every proof and must-fail edit was done in this run",
+                     "rt: ok; handles allowed: none; must-fail edits: 30 refused, 0 bad; every proof and must-fail edit was done in this run"):
+            with self.subTest(line):
+                self.calls.write_text("", encoding="utf-8")
+                ran = self.gate(line)
+                self.assertEqual((ran.returncode, ran.stdout.splitlines()[-1]), (0, self.LAST), ran.stderr)
+                self.assertEqual(self.calls_of_rt(), ["copy: ci", "make: tests"])
+
+    def test_it_fails_where_an_edit_is_bad(self):
+        for counts in ("30 refused, 1 bad", "30 refused, 2 of them only by a limit, 10 bad"):
+            with self.subTest(counts):
+                self.calls.write_text("", encoding="utf-8")
+                ran = self.gate(f"rt: ok; handles allowed: none; must-fail edits: {counts}; every proof and must-fail edit was done in this run")
+                self.assertNotEqual(ran.returncode, 0)
+                self.assertIn("bad must-fail edits", ran.stderr)
+                self.assertEqual(self.calls_of_rt(), ["copy: ci"])
+
+    def test_it_fails_where_rt_fails(self):
+        ran = self.gate("rt: FAILED: words", 1)
+        self.assertNotEqual(ran.returncode, 0)
+        self.assertEqual(self.calls_of_rt(), ["copy: ci"])
 
 
 class Used(MakeTest):

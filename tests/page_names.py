@@ -3,7 +3,7 @@
 
 usage: page_names.py [ROOT]     ROOT is the repository's folder
 
-On README.md, docs/*.md and the README.md of tests, samples and crates; not on docs/CHANGES.md, which names what is gone too:
+On README.md, docs/*.md and the README.md of tests, samples and crates; not on docs/CHANGES.md and docs/PORT.md, which name what is gone too:
     targets       `make X`, in backticks or as a line of a block, names a target, and so does every backtick in a column "Test".
     names         A word in backticks, and any word with an underscore, is a name that some file gives: a crate, a function, a definition,
                   a theorem, a target, a sample. `cases_*` stands for names that begin so.
@@ -28,11 +28,11 @@ import short_names
 from readme import FENCE, README, found, prose, read
 
 PAGES = (README, "docs/*.md", "tests/README.md", "samples/README.md", "crates/*/README.md")
-HISTORY = "docs/CHANGES.md"
+HISTORY = ("docs/CHANGES.md", "docs/PORT.md")
 PROMISES, CALLS, HEADER, LISTING = "docs/PROMISES.md", "docs/CALLS.md", "include/ultra.h", "samples/listing.txt"
 QUOTES, NUMBERS = "crates/refusals/specs/Refusals.antt", "crates/refusals/src/lib.rt"
 # Words in backticks that no file here gives: of the languages, of tools, of the listing, of an example's contract.
-FOREIGN = set("requires ensures pub const type rt strlen black_box GLIBC_TUNABLES ultra-list cmdline half r len".split())
+FOREIGN = set("requires ensures pub const type rt strlen black_box GLIBC_TUNABLES ultra-list cmdline half r result len".split())
 # What stands for any name, in a path.
 ANY = re.compile(r"\b(?:NAME|LABEL|FUNCTION)")
 FILE = re.compile(r"(?<![\w.-])(?:[\w-]+/)*[\w-]+\.(?:antt|rt|rs|py|mk|sh|c|h|md|bin|txt|edit)\b")
@@ -168,9 +168,9 @@ SENTENCE = re.compile(rf"(?P<names>`\w+`) \({PLACE}\)(?:, proved(?: from the dem
 FIELD = re.compile(r"Field of `(\w+)`")
 
 
-def hyphened(name):
+def in_snake_case(name):
     """How the proof of a statement is named, if nothing else is said."""
-    return re.sub(r"(?<=[a-z])(?=[A-Z0-9])", "-", name).lower()
+    return re.sub(r"(?<=[a-z])(?=[A-Z0-9])", "_", name).lower()
 
 
 def statements(text):
@@ -180,7 +180,7 @@ def statements(text):
 
 
 def absent(root, place, wanted):
-    """A problem for each name that the file of a place, (crate, folder, file), does not give; `x-..` begins with x-."""
+    """A problem for each name that the file of a place, (crate, folder, file), does not give; `x_..` begins with x_."""
     path = "crates/{}/{}/{}.antt".format(*place)
     there = [name for name, _ in short_names.antt_names(read(root / path).splitlines())]
     if not (root / path).is_file():
@@ -198,7 +198,11 @@ def proof_problems(root, place, names, said, cell):
         return absent(root, (form["crate"] or crate, "proofs", form["file"] or file), ticked(form["names"]))
     if cell is not None:
         return [f"`{cell}` does not say where it is proved"] if cell.startswith("`") else []
-    return absent(root, (crate, "proofs", file), ticked(said or "") or {hyphened(name.partition(".")[0]) for name in names})
+    if said:
+        return absent(root, (crate, "proofs", file), ticked(said))
+    # Where a definition has the name, the proof has the ending _law.
+    by_name = {in_snake_case(name.partition(".")[0]) for name in names}
+    return absent(root, (crate, "proofs", file), [name for name in by_name if [*absent(root, (crate, "proofs", file), [f"{name}_law"])]])
 
 
 def row_problems(root, cell, row, before):
@@ -276,7 +280,7 @@ def trail_problems(root):
 
 
 def pages_of(root):
-    return [page for page in found(root, PAGES) if page != root / HISTORY]
+    return [page for page in found(root, PAGES) if page not in [root / path for path in HISTORY]]
 
 
 def problems(root):

@@ -36,7 +36,7 @@ int in_no_file;
 
 | | Name | In crates/ |
 |---|---|---|
-| means | `aligned`; `kernelValues`, `moduleValues` | ultra_rules/specs/Ranges.antt; ultra_rules/specs/Members.antt |
+| means | `aligned`; `kernel_values`, `module_values` | ultra_rules/specs/Ranges.antt; ultra_rules/specs/Members.antt |
 | the check | `values` | ultra_rules/src/kernel.rt, module.rt |
 | the test | `module at 2048: refused 13` | cases_reading/stdout |
 | a wrong program | `spec_pages`, and more | ultra_rules/must-fail |
@@ -62,14 +62,14 @@ One record, `Demand` (ultra_rules Demand), proved as `demand`; `Ranges` (ultra_r
 |---|---|---|
 | a | by the language, without `requires` | `compare` |
 | b | `StepsExactly`, ultra_rules Steps | cases_reading |
-| c | `EveryStep`, the same, proved as `each-step` | (a) |
+| c | `EveryStep`, the same, proved as `each_step` | (a) |
 | d | `begins` of `Demand`, ultra_rules Demand (a) | 1 SHORT |
 
 | Promise | Stated | Proved |
 |---|---|---|
-| a | `aligned`, ultra_rules Ranges | `aligned-..`, Steps |
-| b | the same | `steps-exactly`, ultra_rules Steps |
-| c | `Says`, ultra_rules proofs/Steps | `each-step` |
+| a | `aligned`, ultra_rules Ranges | `aligned_..`, Steps |
+| b | the same | `steps_exactly`, ultra_rules Steps |
+| c | `Says`, ultra_rules proofs/Steps | `each_step` |
 | d | ultra_rules Members | contract of `values` |
 """,
     "tests/README.md": "# Tests\n\n| Test | What |\n|---|---|\n| `test-list` | `make list CONTEXT=NAME.bin`; `make -j4 compare` |\n",
@@ -83,11 +83,11 @@ One record, `Demand` (ultra_rules Demand), proved as `demand`; `Ranges` (ultra_r
     "crates/cases_reading/stdout": "module at 0: read\nmodule at 2048: refused 13 at 8\n",
     "crates/ultra_rules/must-fail/spec_pages.edit": "wrong: x\n",
     "crates/ultra_rules/specs/Ranges.antt": "pub aligned : A\npub Ranges : A\n",
-    "crates/ultra_rules/specs/Members.antt": "pub kernelValues : A\npub moduleValues : A\n",
+    "crates/ultra_rules/specs/Members.antt": "pub kernel_values : A\npub module_values : A\n",
     "crates/ultra_rules/specs/Steps.antt": "pub StepsExactly : A\npub EveryStep : A\n",
     "crates/ultra_rules/specs/Demand.antt": "pub record Demand : Type 0 where\n  begins : A\n  ends : A\n",
     "crates/ultra_rules/proofs/Demand.antt": "pub demand : Demand\n",
-    "crates/ultra_rules/proofs/Steps.antt": "pub steps-exactly : A\npub each-step : A\npub aligned-so : A\npub record Says : A where\n",
+    "crates/ultra_rules/proofs/Steps.antt": "pub steps_exactly : A\npub each_step : A\npub aligned_so : A\npub record Says : A where\n",
     "crates/ultra_rules/src/kernel.rt": "pub fn values() {}\n",
     "crates/ultra_rules/src/module.rt": "pub fn values() {}\n",
 }
@@ -170,31 +170,31 @@ class Case(unittest.TestCase):
     def test_stated(self):
         steps, proofs = "crates/ultra_rules/specs/Steps.antt", "crates/ultra_rules/proofs/Steps.antt"
         self.slip("docs/PROMISES.md", "StepsExactly", "StepsExactlx", "`StepsExactlx` is no name that a file gives",
-                  f"`StepsExactlx` is not in {steps}", f"`steps-exactlx` is not in {proofs}")
+                  f"`StepsExactlx` is not in {steps}", f"`steps_exactlx` is not in {proofs}")
         self.slip("docs/PROMISES.md", "StepsExactly", "Ranges", f"`Ranges` is not in {steps}", f"`ranges` is not in {proofs}")
         self.slip("docs/PROMISES.md", "`StepsExactly`, ultra_rules Steps", "`StepsExactly` ultra_rules Steps",
                   "`StepsExactly` stands in no file: `StepsExactly` ultra_rules Steps",
-                  "`EveryStep` stands in no file: `EveryStep`, the same, proved as `each-step`",
-                  "`each-step` stands in no file: `EveryStep`, the same, proved as `each-step`")
-        self.slip("docs/PROMISES.md", "`begins` of", "`kernelValues` of",
-                  "`Demand.kernelValues` is not in crates/ultra_rules/specs/Demand.antt")
+                  "`EveryStep` stands in no file: `EveryStep`, the same, proved as `each_step`",
+                  "`each_step` stands in no file: `EveryStep`, the same, proved as `each_step`")
+        self.slip("docs/PROMISES.md", "`begins` of", "`kernel_values` of",
+                  "`Demand.kernel_values` is not in crates/ultra_rules/specs/Demand.antt")
         self.slip("docs/PROMISES.md", "ultra_rules Members", "ultra_rules Steppes", "crates/ultra_rules/specs/Steppes.antt: no such file")
         self.slip("docs/PROMISES.md", "`Says`, ultra_rules proofs/Steps", "`Says`, ultra_rules Steps", f"`Says` is not in {steps}")
 
     def test_proved(self):
         proofs = "crates/ultra_rules/proofs/Steps.antt"
-        self.slip("docs/PROMISES.md", ", proved as `each-step`", "", f"`every-step` is not in {proofs}")
-        self.slip("docs/PROMISES.md", "same, proved as `each-step`", "same, proved as `demand`", f"`demand` is not in {proofs}")
-        self.slip("docs/PROMISES.md", "| `each-step`", "| `demand`", f"`demand` is not in {proofs}")
-        self.slip("docs/PROMISES.md", "| `each-step`", "| `each-step` in Steps", "``each-step` in Steps` does not say where it is proved")
-        self.slip("docs/PROMISES.md", "aligned-..", "alined-..", f"`alined-..` is not in {proofs}")
-        self.slip("docs/PROMISES.md", "`steps-exactly`, ultra_rules Steps", "`steps-exactly`",
-                  "crates/ultra_rules/proofs/Ranges.antt: no such file", "`steps-exactly` is not in crates/ultra_rules/proofs/Ranges.antt")
+        self.slip("docs/PROMISES.md", ", proved as `each_step`", "", f"`every_step` is not in {proofs}")
+        self.slip("docs/PROMISES.md", "same, proved as `each_step`", "same, proved as `demand`", f"`demand` is not in {proofs}")
+        self.slip("docs/PROMISES.md", "| `each_step`", "| `demand`", f"`demand` is not in {proofs}")
+        self.slip("docs/PROMISES.md", "| `each_step`", "| `each_step` in Steps", "``each_step` in Steps` does not say where it is proved")
+        self.slip("docs/PROMISES.md", "aligned_..", "alined_..", f"`alined_..` is not in {proofs}")
+        self.slip("docs/PROMISES.md", "`steps_exactly`, ultra_rules Steps", "`steps_exactly`",
+                  "crates/ultra_rules/proofs/Ranges.antt: no such file", "`steps_exactly` is not in crates/ultra_rules/proofs/Ranges.antt")
 
     def test_records(self):
         self.slip("docs/PROMISES.md", "`ends`", "`aligned`", "`Demand.aligned` is not in crates/ultra_rules/specs/Demand.antt")
-        self.slip("docs/PROMISES.md", "(ultra_rules Demand), proved as `demand`", "(ultra_rules Demand), proved as `each-step`",
-                  "`each-step` is not in crates/ultra_rules/proofs/Demand.antt")
+        self.slip("docs/PROMISES.md", "(ultra_rules Demand), proved as `demand`", "(ultra_rules Demand), proved as `each_step`",
+                  "`each_step` is not in crates/ultra_rules/proofs/Demand.antt")
         self.slip("docs/PROMISES.md", "`Ranges` (ultra_rules Ranges)", "`Ranges` (ultra_rules Steps)",
                   "`Ranges` is not in crates/ultra_rules/specs/Steps.antt")
         self.slip("docs/PROMISES.md", "`Ranges` (ultra_rules Ranges)", "`Ranges` (Ranges)", "`Ranges` (Ranges) names no crate")
@@ -220,12 +220,12 @@ class Case(unittest.TestCase):
         self.slip("README.md", "Ranges.antt", "Rangess.antt", "ultra_rules/specs/Rangess.antt: no such file",
                   "crates/ultra_rules/specs/Rangess.antt: no such file")
         self.slip("README.md", "`aligned`", "`EveryStep`", "`EveryStep` is not in crates/ultra_rules/specs/Ranges.antt")
-        self.slip("README.md", "`moduleValues`", "`aligned`", "`aligned` is not in crates/ultra_rules/specs/Members.antt")
+        self.slip("README.md", "`module_values`", "`aligned`", "`aligned` is not in crates/ultra_rules/specs/Members.antt")
         self.slip("README.md", "refused 13", "refused 14", "`module at 2048: refused 14` is not in crates/cases_reading/stdout")
         self.slip("README.md", "`spec_pages`", "`aligned`", "crates/ultra_rules/must-fail/aligned.edit: no such file")
         self.slip("README.md", "`values`", "the contracts", "not as many names as files: the contracts")
-        self.slip("README.md", "`aligned`; ", "", "not as many names as files: `kernelValues`, `moduleValues`",
-                  *(f"`{name}` is not in crates/ultra_rules/specs/Ranges.antt" for name in ("kernelValues", "moduleValues")))
+        self.slip("README.md", "`aligned`; ", "", "not as many names as files: `kernel_values`, `module_values`",
+                  *(f"`{name}` is not in crates/ultra_rules/specs/Ranges.antt" for name in ("kernel_values", "module_values")))
         self.slip("README.md", "In crates/", "In", "no table with the column \"In crates/\"")
 
     def test_a_name_that_went(self):

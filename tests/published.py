@@ -7,16 +7,16 @@ Published are the calls of the tables below "Calls from C", "Calls from Rattle" 
 held of each:
 
     requires    It has none: "no call relies on a check made before it" (demand 1).
-    ensures     It has one, an equation of all that it answers and writes with a term E: `r ≡ E`; `(r, now (P .exit)) ≡ E` where P is lent
-                to write. Where it hands back a slice it is `DHandedBack r (buf .entry) ..`, of the other parameters in their order, and
+    ensures     It has one, an equation of all that it answers and writes with a term E: `result ≡ E`; `(result, P.new) ≡ E` where P is
+                lent to write. Where it hands back a slice it is `DHandedBack result buf.entry ..`, of the other parameters in their order, and
                 the equation of that definition has E: `PartOf lent s (E)`, or `LineOrBoard lent s board (E)`.
     E           It is the term that demand 2 runs the call by, and each name in it is the same definition. The promises use this definition:
                 of a call whose contract was weakened, or cites another one, they would say nothing.
     its row     The first name in the last cell is that definition, without what crosses it toward C, or `DHandedBack`.
 
-Demand 2 runs a call that writes by the equation of `runWrite` (crates/demand_2/specs/Calls.antt) for the case of `Write` whose comment names
-it, a question by that of `replyOf` for the case of `Question`, and a call toward C by that of `runWriteFromC` or `replyFromC` (CallsFromC.antt)
-for the case of `WriteFromC` or `QuestionFromC` with its name. `run` and `runFromC` are these, and leave the buffer of a question as it is.
+Demand 2 runs a call that writes by the equation of `run_write` (crates/demand_2/specs/Calls.antt) for the case of `Write` whose comment names
+it, a question by that of `reply_of` for the case of `Question`, and a call toward C by that of `run_write_from_c` or `reply_from_c` (CallsFromC.antt)
+for the case of `WriteFromC` or `QuestionFromC` with its name. `run` and `run_from_c` are these, and leave the buffer of a question as it is.
 Every case stands for published calls, and one case for every published call but `Cursor::first`, which takes no buffer.
 
 The calls of the table "Calls on Handover payloads" do not join demand 2, which speaks of contexts. Of each, E is one definition of all its
@@ -36,42 +36,42 @@ PAGE = "docs/CALLS.md"
 CALLS, CALLS_FROM_C = "crates/demand_2/specs/Calls.antt", "crates/demand_2/specs/CallsFromC.antt"
 ADDITIONS = "crates/ultra_format/specs/Additions.antt"
 # The call that no case stands for: its term, and where the names in it come from.
-WITHOUT_BUFFER = {"Cursor::first": ("cursorAt 0 8", {"cursorAt": "Rattle·ultra_stepping.specs.Stepping.cursorAt"})}
+WITHOUT_BUFFER = {"Cursor::first": ("cursor_at 0 8", {"cursor_at": "Rattle.ultra_stepping.specs.Stepping.cursor_at"})}
 # Where the promises on payloads are stated.
 PROMISES_ON_PAYLOADS = ("crates/handover_demand_3/specs/PayloadDemand3.antt", "crates/handover_written/specs/WritesBack.antt",
                         "crates/handover_exported/specs/Exports.antt")
-EQUALITY = "mathlib.Core.Path._≡_"
+EQUALITY = "Rattle.std.specs.Prelude.◌≡◌"
 # What a slice that is handed back is held by, and what tells the same by values in demand 2: of the buffer, what else is lent, and a term.
-SLICES = {"PartOf": "lentPart", "LineOrBoard": "lentLine"}
-SLICE_ORIGINS = {"PartOf": "Rattle·lent_buffers.specs.LentParts.PartOf",
-                 "LineOrBoard": "Rattle·ultra_questions.specs.CommandLineQuestion.LineOrBoard"}
+SLICES = {"PartOf": "lent_part", "LineOrBoard": "lent_line"}
+SLICE_ORIGINS = {"PartOf": "Rattle.lent_buffers.specs.LentParts.PartOf",
+                 "LineOrBoard": "Rattle.ultra_questions.specs.CommandLineQuestion.LineOrBoard"}
 # What they say: the memory, and not the bytes alone.
 SLICE_TEXTS = {
     "crates/lent_buffers/specs/LentParts.antt": {
-        "PartOf": ["""pub record PartOf (r s : RefT (List ℕ)) (p : Part) : Type 0 where
-  pub block : r .ptr .0 ≡ s .ptr .0
-  pub offset : r .ptr .1 ≡ p .start + s .ptr .1
-  pub within : p .start + p .length ≤ length (s .now)
-  pub has : r .now ≡ bytesAt (s .now) (p .start) (p .length)"""],
-        "WholeOf": ["WholeOf r s = (r .ptr ≡ s .ptr) × (r .now ≡ s .now)"]},
+        "PartOf": ["""pub record PartOf (r s : Bor (List ℕ)) (p : Part) : Type 0 where
+  pub block : r.ref_ptr.0 ≡ s.ref_ptr.0
+  pub offset : r.ref_ptr.1 ≡ p.start + s.ref_ptr.1
+  pub within : p.start + p.length ≤ length s.now
+  pub has : r.now ≡ bytes_at s.now p.start p.length"""],
+        "WholeOf": ["WholeOf r s = (r.ref_ptr ≡ s.ref_ptr) × (r.now ≡ s.now)"]},
     "crates/ultra_questions/specs/CommandLineQuestion.antt": {
         "LineOrBoard": ["LineOrBoard lent s board none = WholeOf lent board",
-                        "LineOrBoard lent s board (found o a) = PartOf lent s (bodyPart o (a .body))"]},
+                        "LineOrBoard lent s board (found o a) = PartOf lent s (body_part o a.body)"]},
 }
 # Public functions, of crates that publish calls, that only this repository calls.
 INNER = {"ultra_reading::next_place_check", "ultra_reading::used_length", "handover_writing::head", "handover_writing::row", "handover_writing::string"}
 # What stands around the definition that the page names.
-AROUND = {"answerCrossed", "stepCrossed", "readingCrossed", "partCrossed", "crossed", "length"}
+AROUND = {"answer_crossed", "step_crossed", "reading_crossed", "part_crossed", "crossed", "length"}
 # What the cases of each kind are run by.
-WRITERS = {"Write": "runWrite", "WriteFromC": "runWriteFromC"}
-ASKERS = {"Question": "replyOf", "QuestionFromC": "replyFromC"}
+WRITERS = {"Write": "run_write", "WriteFromC": "run_write_from_c"}
+ASKERS = {"Question": "reply_of", "QuestionFromC": "reply_from_c"}
 # What they make of a term: both halves of its pair, or the place and the bytes of a part.
-WRITES = {"answerAnd r": "(answer (r .0), r .1)", "severalAnd r": "(several (r .0), r .1)", "numberAnd r": "(number (r .0), r .1)"}
-LENDS = {"lentPart b p": "lent p (bytesAt b (p .start) (p .length))",
-         "lentLine b board none": "boardText board", "lentLine b board (found o a)": "lentPart b (bodyPart o (a .body))"}
+WRITES = {"answer_and r": "(answer r.0, r.1)", "several_and r": "(several r.0, r.1)", "number_and r": "(number r.0, r.1)"}
+LENDS = {"lent_part b p": "lent p (bytes_at b p.start p.length)",
+         "lent_line b board none": "board_text board", "lent_line b board (found o a)": "lent_part b (body_part o a.body)"}
 # What a call is made of.
-KINDS = {"run (write w) b": "runWrite w b", "run (ask q) b": "(replyOf q b, b)",
-         "runFromC (writeFromC w) b": "runWriteFromC w b", "runFromC (askFromC q) b": "(replyFromC q b, b)"}
+KINDS = {"run (write w) b": "run_write w b", "run (ask q) b": "(reply_of q b, b)",
+         "run_from_c (write_from_c w) b": "run_write_from_c w b", "run_from_c (ask_from_c q) b": "(reply_from_c q b, b)"}
 
 Call = collections.namedtuple("Call", "path file cell")
 Function = collections.namedtuple("Function", "parameters borrowed lent clauses imports")
@@ -84,9 +84,10 @@ class Unreadable(Exception):
     """What is not of a form that is held; the message says what was found and what was expected."""
 
 
-# ---- Terms: a name, or a tuple of terms. A parameter of the function is marked by « ». ----
+# ---- Terms: a name, or a tuple of terms. A field of a term is the pair of the term and `.field`. A parameter of the function is marked by « ». ----
 
-TOKEN = re.compile(r"(«\w+»|[A-Za-z][A-Za-z0-9'-]*(?:\.[A-Za-z][A-Za-z0-9'-]*)*|\.\w+|\d+|[(),≡])|(\S)")
+NAME = r"[A-Za-z][A-Za-z0-9_']*"
+TOKEN = re.compile(rf"(«\w+»|(?:[A-Z][A-Za-z0-9]*\.)*{NAME}|\d+|(?<=[\w')»])\.\w+|[(),≡])|(\S)")
 
 
 def one(terms):
@@ -104,6 +105,10 @@ def parsed(text, where=""):
         elif token == ")":
             inner = open_terms.pop()
             open_terms[-1].append(one(inner))
+        elif token[0] == "." and not open_terms[-1]:
+            raise Unreadable(f"{where}`{token}` in `{' '.join(text.split())}`, expected what it is a field of")
+        elif token[0] == ".":
+            open_terms[-1].append((open_terms[-1].pop(), token))
         else:
             open_terms[-1].append(token)
     if len(open_terms) != 1:
@@ -111,10 +116,15 @@ def parsed(text, where=""):
     return one(open_terms[0])
 
 
+def is_field(term):
+    return isinstance(term, tuple) and len(term) == 2 and isinstance(term[1], str) and term[1].startswith(".")
+
+
 def shown(term):
     if isinstance(term, str):
         return term.strip("«»")
-    return " ".join(f"({shown(part)})" if isinstance(part, tuple) else shown(part) for part in term).replace(" ,", ",")
+    parts = [f"({shown(part)})" if isinstance(part, tuple) and not is_field(part) else shown(part) for part in term]
+    return "".join(parts) if is_field(term) else " ".join(parts).replace(" ,", ",")
 
 
 def divided(term, mark):
@@ -132,24 +142,24 @@ def substituted(term, values):
     return tuple(substituted(part, values) for part in term) if isinstance(term, tuple) else values.get(term, term)
 
 
-def at_entry(term):
-    """The term with X for `now (X .entry)`."""
+def at_entry(term, function):
+    """The term with X for what a reference X had when the call began: `X.old` where it is lent to write, else `X.now`."""
     if isinstance(term, str):
         return term
-    if len(term) == 2 and term[0] == "now" and isinstance(term[1], tuple) and len(term[1]) == 2 and term[1][1] == ".entry":
-        return term[1][0]
-    return tuple(at_entry(part) for part in term)
+    if is_field(term) and term[0] in function.borrowed and term[1] == (".old" if term[0] in function.lent else ".now"):
+        return term[0]
+    return tuple(at_entry(part, function) for part in term)
 
 
 def without_now(term):
-    """The term with X for `X .now`."""
+    """The term with X for `X.now`."""
     if isinstance(term, str):
         return term
-    return without_now(term[0]) if len(term) == 2 and term[1] == ".now" else tuple(without_now(part) for part in term)
+    return without_now(term[0]) if is_field(term) and term[1] == ".now" else tuple(without_now(part) for part in term)
 
 
 def unqualified(term):
-    """The term with the last part of each name: `addMap` for `Addition.addMap`."""
+    """The term with the last part of each name: `add_map` for `Addition.add_map`."""
     if isinstance(term, tuple):
         return tuple(unqualified(part) for part in term)
     return term if term.startswith(".") else term.split(".")[-1]
@@ -177,13 +187,13 @@ def read(file):
 
 
 def imported(text):
-    """The whole name of each name that `use M.{a, b as c, N.d}` brings. A crate's own specs have the name that they have elsewhere."""
+    """The whole name of each name that `use M.{a, b as c, N.d}` brings."""
     brought = {}
     for module, items in re.findall(r"^(?:ghost )?use ([^\s{};]+)\.\{([^}]*)\}", text, re.M):
         for item in filter(None, map(str.strip, items.split(","))):
             whole, _, alias = item.partition(" as ")
             name = alias.strip() or whole.split(".")[-1]
-            origin = f"{module.replace('·specs.', '.')}.{whole}"
+            origin = f"{module}.{whole}"
             if brought.setdefault(name, origin) != origin:
                 raise Unreadable(f"`{name}` is imported twice, as {brought[name]} and as {origin}")
     return brought
@@ -201,14 +211,6 @@ def listed(text):
     calls = [re.sub(r"[(\s].*", "", item) for item in re.findall(r"`([^`]+)`", text)]
     path = calls[0].rpartition("::")[0] if calls else ""
     return [f"{path}::{call}" if path and "::" not in call else call for call in calls]
-
-
-def camel(name):
-    return re.sub(r"_([a-z])", lambda found: found[1].upper(), name)
-
-
-def snake(name):
-    return re.sub(r"[A-Z]", lambda found: f"_{found[0].lower()}", name)
 
 
 # ---- The page ----
@@ -277,13 +279,21 @@ def clauses_of(text, at):
     at = re.compile(r"(?:\s*->\s*(?:&'\w+\s+)?\S+)?").match(text, at).end()
     clauses = []
     while True:
-        found = re.compile(r"\s*(\w*)\s*(?=\{)").match(text, at)
+        found = re.compile(r"\s*(\w*\*?)(?: +\w+)?\s*(?=\{)").match(text, at)
         if not found:
             raise Unreadable("a heading of another form than `fn name(..) -> type ensures { .. }`")
         if not found[1]:
             return clauses
         clause, at = inside(text, found.end(), "{}")
         clauses.append((found[1], clause))
+
+
+def made_public(text):
+    """What a lib.rt makes public, a line for each: `pub use a::b;` for each name of `pub use a::{b, c};`, and `pub mod a;`."""
+    lines = re.findall(r"^pub mod \w+;", text, re.M)
+    for path, name, names in re.findall(r"^pub use ((?:\w+::)+)(?:(\w+)|\{([^{}]*)\});", text, re.M):
+        lines += [f"pub use {path}{item.strip()};" for item in (name or names).split(",") if item.strip()]
+    return lines
 
 
 def passed_on(call):
@@ -293,14 +303,14 @@ def passed_on(call):
     if owners and owners[0][0].isupper():
         owners, name = [crate], owners[0]
     if owners and owners[0] != crate:
-        face = read(call.file.parents[2] / owners[0] / "src/lib.rt").split("\n")
+        face = made_public(read(call.file.parents[2] / owners[0] / "src/lib.rt"))
         if f"pub use {crate}::{[*owners, name][1]};" not in face:
             return False
         owners[0] = crate
     if not owners or (owners, module) == ([crate], "lib"):
         return True
     line = {(crate,): f"pub use {module}::{name};", (crate, module): f"pub mod {module};"}.get(tuple(owners))
-    return line in read(call.file.with_name("lib.rt")).split("\n")
+    return line in made_public(read(call.file.with_name("lib.rt")))
 
 
 def function_of(call):
@@ -321,23 +331,18 @@ def function_of(call):
 
 
 def stated(function):
-    """The assertion of the one clause, as a term."""
+    """What the one clause says, as a term."""
     kinds = [kind for kind, _ in function.clauses]
     if kinds != ["ensures"]:
         raise Unreadable(f"has {', '.join(f'`{kind}`' for kind in kinds) or 'no clause'}, expected one `ensures` and no `requires`")
-    text = " ".join(function.clauses[0][1].split())
-    found = re.fullmatch(r"λ r\. ⌜([^⌜⌝]*)⌝", text)
-    if not found:
-        raise Unreadable(f"ensures `{text}`, expected `λ r. ⌜ .. ⌝`")
-    if len(function.lent) > 1 or {"r", "now"} & set(function.parameters):
-        raise Unreadable(f"parameters {', '.join(function.parameters)}, expected one `&mut` at most, and none named r or now")
-    return parsed(found[1])
+    if len(function.lent) > 1 or "result" in function.parameters:
+        raise Unreadable(f"parameters {', '.join(function.parameters)}, expected one `&mut` at most, and none named result")
+    return parsed(function.clauses[0][1])
 
 
 def left_side(function):
     """All that the call answers and writes."""
-    spelled = [f"«{name}»" if "_" in name else name for name in function.lent]
-    return f"(r, now ({spelled[0]} .exit))" if spelled else "r"
+    return f"(result, {function.lent[0]}.new)" if function.lent else "result"
 
 
 def contract(function):
@@ -346,11 +351,11 @@ def contract(function):
     sides = divided(said, "≡")
     if len(sides) != 2 or sides[0] != parsed(left):
         raise Unreadable(f"ensures `{shown(said)}`, expected `{left} ≡ ..`")
-    if whole_name("_≡_", function.imports) != EQUALITY:
-        raise Unreadable(f"≡ is {whole_name('_≡_', function.imports)}, expected {EQUALITY}")
+    if whole_name("◌≡◌", function.imports) != EQUALITY:
+        raise Unreadable(f"≡ is {whole_name('◌≡◌', function.imports)}, expected {EQUALITY}")
     marked = {parameter: f"«{parameter}»" for parameter in function.parameters}
     form = "writes" if function.lent == ["buf"] else "reads"
-    return Held(form, substituted(at_entry(sides[1]), marked), function.imports)
+    return Held(form, substituted(at_entry(sides[1], function), marked), function.imports)
 
 
 def handed_back(function):
@@ -359,7 +364,7 @@ def handed_back(function):
     if not (isinstance(said, tuple) and isinstance(said[0], str) and said[0].endswith("HandedBack")):
         return None
     given = ((name, ".entry") if name in function.borrowed else name for name in function.parameters)
-    return Held("slice", said, function.imports), (said[0], "r", *given)
+    return Held("slice", said, function.imports), (said[0], "result", *given)
 
 
 def unlike(found, expected):
@@ -391,7 +396,7 @@ def spec_of(root, path):
 
 def defining(whole, root):
     """The file of specs that a definition is in, with its own definitions among the names that it knows."""
-    found = re.fullmatch(r"(Rattle·(\w+)\.specs\.(\w+))\.\w+", whole)
+    found = re.fullmatch(r"(Rattle\.(\w+)\.specs\.(\w+))\.\w+", whole)
     if not found:
         raise Unreadable(f"{whole}, expected a definition of a crate's specs")
     spec = spec_of(root, f"crates/{found[2]}/specs/{found[3]}.antt")
@@ -433,11 +438,11 @@ def pattern(left):
 
 
 def unfolded(term, spec):
-    """The term without `membersFormed` and `membersBody`, by their equations."""
+    """The term without `members_formed` and `members_body`, by their equations."""
     if isinstance(term, str):
         return term
     term = tuple(unfolded(part, spec) for part in term)
-    if term[:1] not in (("membersFormed",), ("membersBody",)):
+    if term[:1] not in (("members_formed",), ("members_body",)):
         return term
     for left, right in equations(spec, term[0]):
         constructor, variables = pattern(left)
@@ -464,7 +469,7 @@ def run_by(case, buffer, right, replies):
     if case.runner in WRITERS.values():
         if len(right) == 2 and f"{right[0]} r" in WRITES:
             return "writes", right[1]
-        raise Unreadable(f"{place_of(case)}`{shown(right)}`, expected `answerAnd (..)`, `severalAnd (..)` or `numberAnd (..)`")
+        raise Unreadable(f"{place_of(case)}`{shown(right)}`, expected `answer_and (..)`, `several_and (..)` or `number_and (..)`")
     for relation, tells in SLICES.items():
         if len(right) > 2 and right[:2] == (tells, buffer):
             return relation, one(right[2:])
@@ -477,9 +482,9 @@ def run_by(case, buffer, right, replies):
 def gathering(case, name):
     """The constructor that a function's parameters are gathered by where the case takes one thing, or None."""
     if case.type == "Addition → Write":
-        return "Addition." + camel(name)
+        return "Addition." + name
     if case.type == "Members → Write":
-        return camel(name.removeprefix("add_")) + "Members"
+        return name.removeprefix("add_") + "_members"
     return None
 
 
@@ -500,8 +505,8 @@ def demanded(call, function, case, replies):
 
 # ---- What is held ----
 
-FORMS = {"writes": "(r, now (buf .exit)) ≡ ..", "reads": "an equation that leaves buf as it is",
-         **{relation: f"{relation} r (buf .entry) .. (..)" for relation in SLICES}}
+FORMS = {"writes": "(result, buf.new) ≡ ..", "reads": "an equation that leaves buf as it is",
+         **{relation: f"{relation} result buf.entry .. (..)" for relation in SLICES}}
 
 
 def differences(found, wanted, named_by):
@@ -610,7 +615,8 @@ def gathered_problems(stands, additions, members):
 def public_functions(root, crate):
     """The path of each function, and of each module, that a crate makes public: its own, or one that it passes on."""
     face = read(root / "crates" / crate / "src/lib.rt")
-    return [f"{crate}::{name}" for name in re.findall(r"^pub (?:use (?:\w+::)+|fn |mod )([a-z]\w*)(?=[;(])", face, re.M)]
+    lines = made_public(face) + re.findall(r"^pub fn \w+(?=[(<])", face, re.M)
+    return [f"{crate}::{name}" for line in lines for name in re.findall(r"\b([a-z]\w*);?$", line)]
 
 
 def unpublished_problems(root, paths):
@@ -628,7 +634,7 @@ def all_problems(root, calls, on_payloads):
     stands = []
     for data, runner in {**WRITERS, **ASKERS}.items():
         if data.endswith("FromC"):
-            stands += [case._replace(calls=[snake(case.name)]) for case in cases(spec_from_c, data, runner)]
+            stands += [case._replace(calls=[case.name]) for case in cases(spec_from_c, data, runner)]
         else:
             stands += cases(spec, data, runner)
     replies = {case.name for case in cases(spec, "Reply")}

@@ -38,18 +38,18 @@ FILES = {
 | Call | Value | Refusals | Definition |
 |---|---|---|---|
 | `ultra_look(buf, index, offset)` | where | 1 | `looked` |
-| `ultra_add_module` | length | 2 | `addedMembers` of `moduleOf` |
+| `ultra_add_module` | length | 2 | `added_members` of `module_of` |
 
 ### Calls from Rattle
 
 | Call | Source | Its answer is |
 |---|---|---|
 | `making::begin(buf) -> Answer` | making, src/lib.rt | `begun`, with the buffer |
-| `making::add_module`, `add_line` | making, src/adds.rt | `added` of `addModule given` .. |
-| `making::members::add_module`, `add_line` | adding, src/members.rt | `addedMembers`: one by one |
-| `Cursor::first() -> Cursor` | asking, src/cursor.rt | `cursorAt`: index 0, offset 8 |
-| `Cursor::step(self, buf) -> Step` | the same | `stepOf` |
-| `asking::copy(buf, out: &mut [u8]) -> Answer` | asking, src/lib.rt | `copiedTo`, with the output |
+| `making::add_module`, `add_line` | making, src/adds.rt | `added` of `add_module given` .. |
+| `making::members::add_module`, `add_line` | adding, src/members.rt | `added_members`: one by one |
+| `Cursor::first() -> Cursor` | asking, src/cursor.rt | `cursor_at`: index 0, offset 8 |
+| `Cursor::step(self, buf) -> Step` | the same | `step_of` |
+| `asking::copy(buf, out: &mut [u8]) -> Answer` | asking, src/lib.rt | `copied_to`, with the output |
 | `asking::part(buf, index) -> &[u8]` | the same | `PartHandedBack`: the part that `looked` names |
 | `asking::line(buf, board) -> &[u8]` | the same | `LineHandedBack`: the line, or the board's text |
 | `asking::size(buf) -> u32` | the same | the length of `listing` |
@@ -59,29 +59,29 @@ FILES = {
 | Call | Source | Its answer is |
 |---|---|---|
 | `paying::named(buf, index) -> &[u8]` | paying, src/lib.rt | `NameHandedBack`: the part that `recordOf` names |
-| `paying::write(buf, run) -> Answer` | the same | `payloadOf`, with the buffer |
+| `paying::write(buf, run) -> Answer` | the same | `payload_of`, with the buffer |
 
 ## More
 """,
     CALLS: """-- the calls
 use mathlib.Core.Bool.{Bool, true}
 use lib.ListN.{length}
-use Rattle·ultra_format.specs.Contexts.{Body}
-use Rattle·ultra_format.specs.Additions.{Addition, moduleOf, lineOf, lineFormed}
-use Rattle·asking.specs.Asking.{stepOf, copiedTo, looked, lineFound, listing}
-use Rattle·making.specs.Making.{begun, added, addedMembers}
+use Rattle.ultra_format.specs.Contexts.{Body}
+use Rattle.ultra_format.specs.Additions.{Addition, module_of, line_of, line_formed}
+use Rattle.asking.specs.Asking.{step_of, copied_to, looked, line_found, listing}
+use Rattle.making.specs.Making.{begun, added, added_members}
 
 pub data Members : Type 0 where
-  lineMembers : (text : List ℕ) → Members
-  moduleMembers : (kind : ℕ) (name : List ℕ) → Members
+  line_members : (text : List ℕ) → Members
+  module_members : (kind : ℕ) (name : List ℕ) → Members
 
-abbrev pub membersFormed : Members → Bool
-membersFormed (lineMembers text) = lineFormed text
-membersFormed (moduleMembers kind name) = true
+abbrev pub members_formed : Members → Bool
+members_formed (line_members text) = line_formed text
+members_formed (module_members kind name) = true
 
-abbrev pub membersBody : Members → Body
-membersBody (lineMembers text) = lineOf text
-membersBody (moduleMembers kind name) = moduleOf kind name
+abbrev pub members_body : Members → Body
+members_body (line_members text) = line_of text
+members_body (module_members kind name) = module_of kind name
 
 pub data Write : Type 0 where
   -- `making::begin`
@@ -89,7 +89,7 @@ pub data Write : Type 0 where
   -- `making::add_module`, `add_line`
   add : Addition → Write
   -- `making::members::add_module`, `add_line`
-  addMembers : Members → Write
+  add_members : Members → Write
 
 pub data Question : Type 0 where
   -- `Cursor::step`
@@ -97,11 +97,11 @@ pub data Question : Type 0 where
   -- `asking::copy`
   copy : List ℕ → Question
   -- `asking::part`
-  askPart : ℕ → Question
+  ask_part : ℕ → Question
   -- `asking::line`, with the board's text
-  askLine : List ℕ → Question
+  ask_line : List ℕ → Question
   -- `asking::size`
-  askSize : Question
+  ask_size : Question
 
 pub data Call : Type 0 where
   write : Write → Call
@@ -116,94 +116,94 @@ pub data Reply : Type 0 where
   copied : Answer × List ℕ → Reply
   number : ℕ → Reply
 
-abbrev pub lentPart : List ℕ → Part → Reply
-lentPart b p = lent p (bytesAt b (p .start) (p .length))
+abbrev pub lent_part : List ℕ → Part → Reply
+lent_part b p = lent p (bytes_at b p.start p.length)
 
-abbrev pub lentLine : List ℕ → List ℕ → Found → Reply
-lentLine b board none = boardText board
-lentLine b board (found o a) = lentPart b (bodyPart o (a .body))
+abbrev pub lent_line : List ℕ → List ℕ → Found → Reply
+lent_line b board none = board_text board
+lent_line b board (found o a) = lent_part b (body_part o a.body)
 
-abbrev pub answerAnd : Answer × List ℕ → Reply × List ℕ
-answerAnd r = (answer (r .0), r .1)
+abbrev pub answer_and : Answer × List ℕ → Reply × List ℕ
+answer_and r = (answer r.0, r.1)
 
-abbrev pub severalAnd : ModulesAdded × List ℕ → Reply × List ℕ
-severalAnd r = (several (r .0), r .1)
+abbrev pub several_and : ModulesAdded × List ℕ → Reply × List ℕ
+several_and r = (several r.0, r.1)
 
-unfoldable pub runWrite : Write → List ℕ → Reply × List ℕ
-runWrite begin b = answerAnd (begun b)
-runWrite (add g) b = answerAnd (added b g)
-runWrite (addMembers m) b = answerAnd (addedMembers b (membersFormed m) (membersBody m))
+unfoldable pub run_write : Write → List ℕ → Reply × List ℕ
+run_write begin b = answer_and (begun b)
+run_write (add g) b = answer_and (added b g)
+run_write (add_members m) b = answer_and (added_members b (members_formed m) (members_body m))
 
-unfoldable pub replyOf : Question → List ℕ → Reply
-replyOf (step k) b = stepped (stepOf b k)
-replyOf (copy out) b =
-    copied (copiedTo b out) -- over two lines
-replyOf (askPart i) b = lentPart b (looked b i .part)
-replyOf (askLine board) b = lentLine b board (lineFound b)
-replyOf askSize b = number (length (listing b))
+unfoldable pub reply_of : Question → List ℕ → Reply
+reply_of (step k) b = stepped (step_of b k)
+reply_of (copy out) b =
+    copied (copied_to b out) -- over two lines
+reply_of (ask_part i) b = lent_part b (looked b i).part
+reply_of (ask_line board) b = lent_line b board (line_found b)
+reply_of ask_size b = number (length (listing b))
 
 abbrev pub run : Call → List ℕ → Reply × List ℕ
-run (write w) b = runWrite w b
-run (ask q) b = (replyOf q b, b)
+run (write w) b = run_write w b
+run (ask q) b = (reply_of q b, b)
 """,
     FROM_C: """-- the calls toward C
 use mathlib.Core.Bool.{true}
-use Rattle·ultra_format.specs.Additions.{moduleOf}
-use Rattle·asking.specs.Asking.{looked, place}
-use Rattle·making.specs.Making.{addedMembers}
-use Rattle·ultra.specs.Crossing.{answerCrossed, crossed}
+use Rattle.ultra_format.specs.Additions.{module_of}
+use Rattle.asking.specs.Asking.{looked, place}
+use Rattle.making.specs.Making.{added_members}
+use Rattle.ultra.specs.Crossing.{answer_crossed, crossed}
 
 pub data WriteFromC : Type 0 where
-  ultraAddModule : (kind : ℕ) (name : List ℕ) → WriteFromC
+  ultra_add_module : (kind : ℕ) (name : List ℕ) → WriteFromC
 
 pub data QuestionFromC : Type 0 where
-  ultraLook : (index offset : ℕ) → QuestionFromC
+  ultra_look : (index offset : ℕ) → QuestionFromC
 
 pub data CallFromC : Type 0 where
-  writeFromC : WriteFromC → CallFromC
-  askFromC : QuestionFromC → CallFromC
+  write_from_c : WriteFromC → CallFromC
+  ask_from_c : QuestionFromC → CallFromC
 
-abbrev pub numberAnd : ℕ × List ℕ → Reply × List ℕ
-numberAnd r = (number (r .0), r .1)
+abbrev pub number_and : ℕ × List ℕ → Reply × List ℕ
+number_and r = (number r.0, r.1)
 
-unfoldable pub runWriteFromC : WriteFromC → List ℕ → Reply × List ℕ
-runWriteFromC (ultraAddModule kind name) b = numberAnd (crossed (addedMembers b true (moduleOf kind name)))
+unfoldable pub run_write_from_c : WriteFromC → List ℕ → Reply × List ℕ
+run_write_from_c (ultra_add_module kind name) b = number_and (crossed (added_members b true (module_of kind name)))
 
-unfoldable pub replyFromC : QuestionFromC → List ℕ → Reply
-replyFromC (ultraLook index offset) b = number (answerCrossed (looked b (place index offset)))
+unfoldable pub reply_from_c : QuestionFromC → List ℕ → Reply
+reply_from_c (ultra_look index offset) b = number (answer_crossed (looked b (place index offset)))
 
-abbrev pub runFromC : CallFromC → List ℕ → Reply × List ℕ
-runFromC (writeFromC w) b = runWriteFromC w b
-runFromC (askFromC q) b = (replyFromC q b, b)
+abbrev pub run_from_c : CallFromC → List ℕ → Reply × List ℕ
+run_from_c (write_from_c w) b = run_write_from_c w b
+run_from_c (ask_from_c q) b = (reply_from_c q b, b)
 """,
     ADDITIONS: """pub data Addition : Type 0 where
-  addModule : ModuleRecord → Addition
-  addLine : List ℕ → Addition
+  add_module : ModuleRecord → Addition
+  add_line : List ℕ → Addition
 
 abbrev pub other : ℕ
 """,
-    C: """ghost use mathlib.Core.Path.{_≡_};
+    C: """ghost use Rattle.std.specs.Prelude.{◌≡◌};
 ghost use mathlib.Core.Bool.{true};
-ghost use Rattle·ultra_format.specs.Additions.{moduleOf};
-ghost use Rattle·asking.specs.Asking.{looked, place};
-ghost use Rattle·making.specs.Making.{addedMembers};
-ghost use Rattle·ultra·specs.specs.Crossing.{answerCrossed, crossed};
+ghost use Rattle.ultra_format.specs.Additions.{module_of};
+ghost use Rattle.asking.specs.Asking.{looked, place};
+ghost use Rattle.making.specs.Making.{added_members};
+ghost use Rattle.ultra.specs.Crossing.{answer_crossed, crossed};
 
 // fn ultra_look, in a comment
-#[no_mangle]
+#[unsafe(no_mangle)]
 pub extern "C" fn ultra_look(buf: &[u8], index: u32, offset: u32) -> u64
-    ensures { λ r. ⌜ r ≡ answerCrossed (looked (now (buf .entry)) (place index offset)) ⌝ }
+    ensures { result ≡ answer_crossed (looked buf.now (place index offset)) }
 {
     0
 }
 
-#[no_mangle]
+#[unsafe(no_mangle)]
 pub extern "C" fn ultra_add_module(
     buf: &mut [u8],
     module_kind: u32,
     name: &[u8],
 ) -> u64
-    ensures { λ r. ⌜ (r, now (buf .exit)) ≡ crossed (addedMembers (now (buf .entry)) true (moduleOf «module_kind» (now (name .entry)))) ⌝ }
+    ensures { (result, buf.new) ≡ crossed (added_members buf.old true (module_of module_kind name.now)) }
 {
     0
 }
@@ -212,145 +212,145 @@ pub extern "C" fn ultra_add_module(
 """,
     LIB: """mod adds;
 
-ghost use mathlib.Core.Path.{_≡_};
-ghost use Rattle·making·specs.specs.Making.{begun};
+ghost use Rattle.std.specs.Prelude.{◌≡◌};
+ghost use Rattle.making.specs.Making.{begun};
 pub use adds::add_line;
 pub use adding::members;
 pub use adds::add_module;
 
 pub fn begin(buf: &mut [u8]) -> Answer
-    ensures { λ r. ⌜ (r, now (buf .exit)) ≡ begun (now (buf .entry)) ⌝ }
+    ensures { (result, buf.new) ≡ begun buf.old }
 {
     Answer::Done(8)
 }
 """,
-    ADDS: """ghost use mathlib.Core.Path.{_≡_};
-ghost use Rattle·ultra_format.specs.Additions.{Addition};
-ghost use Rattle·making·specs.specs.Making.{added};
+    ADDS: """ghost use Rattle.std.specs.Prelude.{◌≡◌};
+ghost use Rattle.ultra_format.specs.Additions.{Addition};
+ghost use Rattle.making.specs.Making.{added};
 
 pub fn add_module(buf: &mut [u8], given: ModuleRecord) -> Answer
-    ensures { λ r. ⌜ (r, now (buf .exit)) ≡ added (now (buf .entry)) (Addition.addModule given) ⌝ }
+    ensures { (result, buf.new) ≡ added buf.old (Addition.add_module given) }
 {
     Answer::Done(8)
 }
 
 pub fn add_line(buf: &mut [u8], text: &[u8]) -> Answer
-    ensures { λ r. ⌜ (r, now (buf .exit)) ≡ added (now (buf .entry)) (Addition.addLine (now (text .entry))) ⌝ }
+    ensures { (result, buf.new) ≡ added buf.old (Addition.add_line text.now) }
 {
     Answer::Done(8)
 }
 """,
-    MEMBERS: """ghost use mathlib.Core.Path.{_≡_};
+    MEMBERS: """ghost use Rattle.std.specs.Prelude.{◌≡◌};
 ghost use mathlib.Core.Bool.{true};
-ghost use Rattle·ultra_format.specs.Additions.{moduleOf, lineOf, lineFormed};
-ghost use Rattle·making.specs.Making.{addedMembers};
+ghost use Rattle.ultra_format.specs.Additions.{module_of, line_of, line_formed};
+ghost use Rattle.making.specs.Making.{added_members};
 
 pub fn add_module(buf: &mut [u8], sort: u32, name: &[u8]) -> Answer
-    ensures { λ r. ⌜ (r, now (buf .exit)) ≡ addedMembers (now (buf .entry)) true (moduleOf sort (now (name .entry))) ⌝ }
+    ensures { (result, buf.new) ≡ added_members buf.old true (module_of sort name.now) }
 {
     Answer::Done(8)
 }
 
 pub fn add_line(buf: &mut [u8], text: &[u8]) -> Answer
-    ensures { λ r. ⌜ (r, now (buf .exit)) ≡ addedMembers (now (buf .entry)) (lineFormed (now (text .entry))) (lineOf (now (text .entry))) ⌝ }
+    ensures { (result, buf.new) ≡ added_members buf.old (line_formed text.now) (line_of text.now) }
 {
     Answer::Done(8)
 }
 """,
-    ASKED: """use Rattle·lent_buffers.specs.LentParts.{PartOf}
-use Rattle·ultra_questions.specs.CommandLineQuestion.{LineOrBoard}
+    ASKED: """use Rattle.lent_buffers.specs.LentParts.{PartOf}
+use Rattle.ultra_questions.specs.CommandLineQuestion.{LineOrBoard}
 
 unfoldable pub looked : List ℕ → ℕ → Place
 looked b i = placeAt b i
 
-unfoldable pub lineFound : List ℕ → Found
-lineFound b = searched b
+unfoldable pub line_found : List ℕ → Found
+line_found b = searched b
 
-abbrev pub PartHandedBack : RefT (List ℕ) → RefT (List ℕ) → ℕ → Type 0
-PartHandedBack lent s i = PartOf lent s (looked (s .now) i .part)
+abbrev pub PartHandedBack : Bor (List ℕ) → Bor (List ℕ) → ℕ → Type 0
+PartHandedBack lent s i = PartOf lent s (looked s.now i).part
 
-abbrev pub LineHandedBack : RefT (List ℕ) → RefT (List ℕ) → RefT (List ℕ) → Type 0
-LineHandedBack lent s board = LineOrBoard lent s board (lineFound (s .now))
+abbrev pub LineHandedBack : Bor (List ℕ) → Bor (List ℕ) → Bor (List ℕ) → Type 0
+LineHandedBack lent s board = LineOrBoard lent s board (line_found s.now)
 """,
     PARTS: """abbrev pub noPart : Part
 noPart = part 0 0
 
 -- that part of s
-pub record PartOf (r s : RefT (List ℕ)) (p : Part) : Type 0 where
-  pub block : r .ptr .0 ≡ s .ptr .0
-  pub offset : r .ptr .1 ≡ p .start + s .ptr .1
-  pub within : p .start + p .length ≤ length (s .now)
-  pub has : r .now ≡ bytesAt (s .now) (p .start) (p .length)
+pub record PartOf (r s : Bor (List ℕ)) (p : Part) : Type 0 where
+  pub block : r.ref_ptr.0 ≡ s.ref_ptr.0
+  pub offset : r.ref_ptr.1 ≡ p.start + s.ref_ptr.1
+  pub within : p.start + p.length ≤ length s.now
+  pub has : r.now ≡ bytes_at s.now p.start p.length
 
-abbrev pub WholeOf : RefT (List ℕ) → RefT (List ℕ) → Type 0
-WholeOf r s = (r .ptr ≡ s .ptr) × (r .now ≡ s .now)
+abbrev pub WholeOf : Bor (List ℕ) → Bor (List ℕ) → Type 0
+WholeOf r s = (r.ref_ptr ≡ s.ref_ptr) × (r.now ≡ s.now)
 """,
-    LINES: """abbrev pub LineOrBoard : RefT (List ℕ) → RefT (List ℕ) → RefT (List ℕ) → Found → Type 0
+    LINES: """abbrev pub LineOrBoard : Bor (List ℕ) → Bor (List ℕ) → Bor (List ℕ) → Found → Type 0
 LineOrBoard lent s board none = WholeOf lent board
-LineOrBoard lent s board (found o a) = PartOf lent s (bodyPart o (a .body))
+LineOrBoard lent s board (found o a) = PartOf lent s (body_part o a.body)
 """,
     ASKING: """mod cursor;
 
-ghost use mathlib.Core.Path.{_≡_};
+ghost use Rattle.std.specs.Prelude.{◌≡◌};
 ghost use lib.ListN.{length};
-ghost use Rattle·asking·specs.specs.Asking.{copiedTo, listing, PartHandedBack, LineHandedBack};
+ghost use Rattle.asking.specs.Asking.{copied_to, listing, PartHandedBack, LineHandedBack};
 pub use cursor::Cursor;
 
 pub fn copy(buf: &[u8], out: &mut [u8]) -> Answer
-    ensures { λ r. ⌜ (r, now (out .exit)) ≡ copiedTo (now (buf .entry)) (now (out .entry)) ⌝ }
+    ensures { (result, out.new) ≡ copied_to buf.now out.old }
 {
     Answer::Done(0)
 }
 
 pub fn part(buf: &[u8], index: u64) -> &[u8]
-    ensures { λ r. ⌜ PartHandedBack r (buf .entry) index ⌝ }
+    ensures { PartHandedBack result buf.entry index }
 {
     buf
 }
 
 pub fn line<'a>(buf: &'a [u8], board: &'a [u8]) -> &'a [u8]
-    ensures { λ r. ⌜ LineHandedBack r (buf .entry) (board .entry) ⌝ }
+    ensures { LineHandedBack result buf.entry board.entry }
 {
     board
 }
 
 pub fn size(buf: &[u8]) -> u32
-    ensures { λ r. ⌜ r ≡ length (listing (now (buf .entry))) ⌝ }
+    ensures { result ≡ length (listing buf.now) }
 {
     0
 }
 """,
-    READS: "use Rattle·paying.specs.Paying.{NameHandedBack}\n",
-    WRITES: "use Rattle·paying.specs.Paying.{payloadOf}\n",
-    EXPORTS: "use Rattle·paying.specs.Paying.{payloadOf}\n",
-    PAYING: """ghost use mathlib.Core.Path.{_≡_};
-ghost use Rattle·paying·specs.specs.Paying.{payloadOf, other, NameHandedBack, MetaHandedBack};
+    READS: "use Rattle.paying.specs.Paying.{NameHandedBack}\n",
+    WRITES: "use Rattle.paying.specs.Paying.{payload_of}\n",
+    EXPORTS: "use Rattle.paying.specs.Paying.{payload_of}\n",
+    PAYING: """ghost use Rattle.std.specs.Prelude.{◌≡◌};
+ghost use Rattle.paying.specs.Paying.{payload_of, other, NameHandedBack, MetaHandedBack};
 
 pub fn named(buf: &[u8], index: u64) -> &[u8]
-    ensures { λ r. ⌜ NameHandedBack r (buf .entry) index ⌝ }
+    ensures { NameHandedBack result buf.entry index }
 {
     buf
 }
 
 pub fn write(buf: &mut [u8], run: &[u8]) -> Answer
-    ensures { λ r. ⌜ (r, now (buf .exit)) ≡ payloadOf (now (buf .entry)) (now (run .entry)) ⌝ }
+    ensures { (result, buf.new) ≡ payload_of buf.old run.now }
 {
     Answer::Done(0)
 }
 """,
-    CURSOR: """ghost use mathlib.Core.Path.{_≡_};
-ghost use Rattle·ultra_stepping.specs.Stepping.{cursorAt};
-ghost use Rattle·asking·specs.specs.Asking.{stepOf};
+    CURSOR: """ghost use Rattle.std.specs.Prelude.{◌≡◌};
+ghost use Rattle.ultra_stepping.specs.Stepping.{cursor_at};
+ghost use Rattle.asking.specs.Asking.{step_of};
 
 impl Cursor {
     pub fn first() -> Self
-        ensures { λ r. ⌜ r ≡ cursorAt 0 8 ⌝ }
+        ensures { result ≡ cursor_at 0 8 }
     {
         Self
     }
 
     pub fn step(self, buf: &[u8]) -> Step
-        ensures { λ r. ⌜ r ≡ stepOf (now (buf .entry)) self ⌝ }
+        ensures { result ≡ step_of buf.now self }
     {
         Step::End
     }
@@ -388,141 +388,141 @@ class Contracts(Case):
         self.told()
 
     def test_requires(self):
-        self.change(ASKING, "    ensures { λ r. ⌜ r ≡ length", "    requires { ⌜ 8 ≤ length (now buf) ⌝ }\n    ensures { λ r. ⌜ r ≡ length")
+        self.change(ASKING, "    ensures { result ≡ length", "    requires { 8 ≤ length buf.now }\n    ensures { result ≡ length")
         self.told("asking::size, crates/asking/src/lib.rt: has `requires`, `ensures`, expected one `ensures` and no `requires`")
 
     def test_no_contract(self):
-        self.change(ASKING, "    ensures { λ r. ⌜ r ≡ length (listing (now (buf .entry))) ⌝ }\n", "")
+        self.change(ASKING, "    ensures { result ≡ length (listing buf.now) }\n", "")
         self.told("asking::size, crates/asking/src/lib.rt: has no clause, expected one `ensures` and no `requires`")
 
     def test_two_contracts(self):
-        self.change(CURSOR, "        ensures { λ r. ⌜ r ≡ cursorAt", "        ensures { λ r. ⌜ r ≡ r ⌝ }\n        ensures { λ r. ⌜ r ≡ cursorAt")
+        self.change(CURSOR, "        ensures { result ≡ cursor_at", "        ensures same { result ≡ result }\n        ensures first { result ≡ cursor_at")
         self.told("Cursor::first, crates/asking/src/cursor.rt: has `ensures`, `ensures`, expected one `ensures` and no `requires`")
 
     def test_another_definition(self):
-        self.change(CURSOR, "r ≡ stepOf (now", "r ≡ lookOf (now")
-        self.told(f"Cursor::step, {CURSOR}: contract has `lookOf buf self`, expected `stepOf buf self` (replyOf, {CALLS})")
-        self.change(ADDS, "Addition.addLine", "Addition.addModule")
-        self.told(f"making::add_line, {ADDS}: contract has `added buf (addModule text)`, expected `added buf (addLine text)` (runWrite, {CALLS})")
-        self.change(CURSOR, "cursorAt 0 8", "cursorAt 8 8")
-        self.told(f"Cursor::first, {CURSOR}: contract has `cursorAt 8 8`, expected `cursorAt 0 8` (document 01)")
+        self.change(CURSOR, "≡ step_of buf", "≡ look_of buf")
+        self.told(f"Cursor::step, {CURSOR}: contract has `look_of buf self`, expected `step_of buf self` (reply_of, {CALLS})")
+        self.change(ADDS, "Addition.add_line", "Addition.add_module")
+        self.told(f"making::add_line, {ADDS}: contract has `added buf (add_module text)`, expected `added buf (add_line text)` (run_write, {CALLS})")
+        self.change(CURSOR, "cursor_at 0 8", "cursor_at 8 8")
+        self.told(f"Cursor::first, {CURSOR}: contract has `cursor_at 8 8`, expected `cursor_at 0 8` (document 01)")
 
     def test_one_half(self):
-        self.change(LIB, "(r, now (buf .exit)) ≡ begun (now (buf .entry))", "r ≡ begun (now (buf .entry)) .0")
-        self.told(f"making::begin, {LIB}: ensures `r ≡ begun (now (buf .entry)) .0`, expected `(r, now (buf .exit)) ≡ ..`")
-        self.change(ASKING, "(r, now (out .exit)) ≡", "now (out .exit) ≡")
-        self.told(f"asking::copy, {ASKING}: ensures `now (out .exit) ≡ copiedTo (now (buf .entry)) (now (out .entry))`, "
-                  "expected `(r, now (out .exit)) ≡ ..`")
+        self.change(LIB, "(result, buf.new) ≡ begun buf.old", "result ≡ (begun buf.old).0")
+        self.told(f"making::begin, {LIB}: ensures `result ≡ (begun buf.old).0`, expected `(result, buf.new) ≡ ..`")
+        self.change(ASKING, "(result, out.new) ≡", "out.new ≡")
+        self.told(f"asking::copy, {ASKING}: ensures `out.new ≡ copied_to buf.now out.old`, "
+                  "expected `(result, out.new) ≡ ..`")
 
     def test_the_buffer_afterwards(self):
-        self.change(LIB, "begun (now (buf .entry))", "begun (now (buf .exit))")
-        self.told(f"making::begin, {LIB}: contract has `begun (now (buf .exit))`, expected `begun buf` (runWrite, {CALLS})")
+        self.change(LIB, "begun buf.old", "begun buf.new")
+        self.told(f"making::begin, {LIB}: contract has `begun buf.new`, expected `begun buf` (run_write, {CALLS})")
 
     def test_more_than_an_equation(self):
         for sign in "⊎∨×→≤∗":
-            self.change(CURSOR, "now (buf .entry)) self", f"now (buf .entry)) self {sign} x")
-            self.told(f"Cursor::step, {CURSOR}: `{sign}` in `r ≡ stepOf (now (buf .entry)) self {sign} x`, expected names and parentheses alone")
-        self.change(CURSOR, "buf .entry)) self", "buf .entry)) self ≡ x")
-        self.told(f"Cursor::step, {CURSOR}: ensures `r ≡ stepOf (now (buf .entry)) self ≡ x`, expected `r ≡ ..`")
-        self.change(CURSOR, "buf .entry)) self", "buf .entry) self")
-        self.told(f"Cursor::step, {CURSOR}: parentheses that do not close in `r ≡ stepOf (now (buf .entry) self`")
-        self.change(CURSOR, "self ⌝ }", "self ⌝ ∗ ⌜ r ≡ r ⌝ }")
-        self.told(f"Cursor::step, {CURSOR}: ensures `λ r. ⌜ r ≡ stepOf (now (buf .entry)) self ⌝ ∗ ⌜ r ≡ r ⌝`, expected `λ r. ⌜ .. ⌝`")
+            self.change(CURSOR, "buf.now self", f"buf.now self {sign} x")
+            self.told(f"Cursor::step, {CURSOR}: `{sign}` in `result ≡ step_of buf.now self {sign} x`, expected names and parentheses alone")
+        self.change(CURSOR, "buf.now self", "buf.now self ≡ x")
+        self.told(f"Cursor::step, {CURSOR}: ensures `result ≡ step_of buf.now self ≡ x`, expected `result ≡ ..`")
+        self.change(CURSOR, "buf.now self", "(buf.now self")
+        self.told(f"Cursor::step, {CURSOR}: parentheses that do not close in `result ≡ step_of (buf.now self`")
+        self.change(CURSOR, "ensures { result ≡ step_of", "ensures* { result ≡ step_of")
+        self.told(f"Cursor::step, {CURSOR}: has `ensures*`, expected one `ensures` and no `requires`")
 
     def test_parameters_exchanged(self):
         self.change(C, "place index offset", "place offset index")
-        self.told(f"ultra_look, {C}: contract has `answerCrossed (looked buf (place offset index))`, "
-                  f"expected `answerCrossed (looked buf (place index offset))` (replyFromC, {FROM_C})")
+        self.told(f"ultra_look, {C}: contract has `answer_crossed (looked buf (place offset index))`, "
+                  f"expected `answer_crossed (looked buf (place index offset))` (reply_from_c, {FROM_C})")
         self.change(C, "index: u32, offset: u32", "offset: u32, index: u32")
-        self.told(f"ultra_look, {C}: contract has `answerCrossed (looked buf (place index offset))`, "
-                  f"expected `answerCrossed (looked buf (place offset index))` (replyFromC, {FROM_C})")
-        self.change(MEMBERS, "moduleOf sort (now (name .entry))", "moduleOf (now (name .entry)) sort")
-        self.told(f"making::members::add_module, {MEMBERS}: contract has `addedMembers buf true (moduleOf name sort)`, "
-                  f"expected `addedMembers buf true (moduleOf sort name)` (runWrite, {CALLS})")
+        self.told(f"ultra_look, {C}: contract has `answer_crossed (looked buf (place index offset))`, "
+                  f"expected `answer_crossed (looked buf (place offset index))` (reply_from_c, {FROM_C})")
+        self.change(MEMBERS, "module_of sort name.now", "module_of name.now sort")
+        self.told(f"making::members::add_module, {MEMBERS}: contract has `added_members buf true (module_of name sort)`, "
+                  f"expected `added_members buf true (module_of sort name)` (run_write, {CALLS})")
 
     def test_a_part(self):
-        self.change(ASKED, "i .part)", "i)")
-        self.told(f"asking::part, {ASKING}: contract has `looked buf index`, expected `looked buf index .part` (replyOf, {CALLS})")
-        self.change(ASKED, "PartOf lent s (looked (s .now) i .part)", "LineOrBoard lent s (looked (s .now) i .part)")
-        self.told(f"asking::part, {ASKING}: contract of the form `LineOrBoard r (buf .entry) .. (..)`, "
-                  f"expected `PartOf r (buf .entry) .. (..)` (replyOf, {CALLS})")
-        self.change(ASKING, "PartHandedBack r (buf .entry) index", "r ≡ looked (now (buf .entry)) index .part")
+        self.change(ASKED, "i).part", "i)")
+        self.told(f"asking::part, {ASKING}: contract has `looked buf index`, expected `(looked buf index).part` (reply_of, {CALLS})")
+        self.change(ASKED, "PartOf lent s (looked s.now i).part", "LineOrBoard lent s (looked s.now i).part")
+        self.told(f"asking::part, {ASKING}: contract of the form `LineOrBoard result buf.entry .. (..)`, "
+                  f"expected `PartOf result buf.entry .. (..)` (reply_of, {CALLS})")
+        self.change(ASKING, "PartHandedBack result buf.entry index", "result ≡ (looked buf.now index).part")
         self.told(f"asking::part, {ASKING}: docs/CALLS.md names `PartHandedBack` first, expected `looked`",
                   f"asking::part, {ASKING}: contract of the form `an equation that leaves buf as it is`, "
-                  f"expected `PartOf r (buf .entry) .. (..)` (replyOf, {CALLS})")
+                  f"expected `PartOf result buf.entry .. (..)` (reply_of, {CALLS})")
 
     def test_a_part_of_either(self):
-        self.change(ASKED, "LineOrBoard lent s board (lineFound", "LineOrBoard lent s board (lookedFor")
-        self.told(f"asking::line, {ASKING}: contract has `board (lookedFor buf)`, expected `board (lineFound buf)` (replyOf, {CALLS})")
-        self.change(ASKED, "LineOrBoard lent s board (lineFound (s .now))", "LineOrBoard lent board s (lineFound (s .now))")
+        self.change(ASKED, "LineOrBoard lent s board (line_found", "LineOrBoard lent s board (looked_for")
+        self.told(f"asking::line, {ASKING}: contract has `board (looked_for buf)`, expected `board (line_found buf)` (reply_of, {CALLS})")
+        self.change(ASKED, "LineOrBoard lent s board (line_found s.now)", "LineOrBoard lent board s (line_found s.now)")
         other = "expected one equation, `PartOf lent s .. (..)` or `LineOrBoard lent s .. (..)`"
         self.told(f"asking::line, {ASKING}: {ASKED}: `LineHandedBack`, {other}")
-        self.change(ASKED, "LineOrBoard lent s board (lineFound", "WholeOf lent board (lineFound")
+        self.change(ASKED, "LineOrBoard lent s board (line_found", "WholeOf lent board (line_found")
         self.told(f"asking::line, {ASKING}: {ASKED}: `LineHandedBack`, {other}")
         self.change(ASKED, "LineHandedBack lent s board =", "LineHandedBack lent s =")
         self.told(f"asking::line, {ASKING}: {ASKED}: `LineHandedBack`, {other}")
-        self.change(ASKED, "(lineFound (s .now))\n", "(lineFound (s .now))\nLineHandedBack lent s other = LineOrBoard lent s other (lineFound (s .now))\n")
+        self.change(ASKED, "(line_found s.now)\n", "(line_found s.now)\nLineHandedBack lent s other = LineOrBoard lent s other (line_found s.now)\n")
         self.told(f"asking::line, {ASKING}: {ASKED}: `LineHandedBack`, {other}")
 
     def test_what_is_handed_back_of(self):
-        self.change(ASKING, "LineHandedBack r (buf .entry) (board .entry)", "LineHandedBack r (board .entry) (buf .entry)")
-        self.told(f"asking::line, {ASKING}: contract has `LineHandedBack r (board .entry) (buf .entry)`, "
-                  "expected `LineHandedBack r (buf .entry) (board .entry)`")
-        self.change(ASKING, "PartHandedBack r (buf .entry) index", "PartHandedBack r (buf .entry)")
-        self.told(f"asking::part, {ASKING}: contract has `PartHandedBack r (buf .entry)`, expected `PartHandedBack r (buf .entry) index`")
+        self.change(ASKING, "LineHandedBack result buf.entry board.entry", "LineHandedBack result board.entry buf.entry")
+        self.told(f"asking::line, {ASKING}: contract has `LineHandedBack result board.entry buf.entry`, "
+                  "expected `LineHandedBack result buf.entry board.entry`")
+        self.change(ASKING, "PartHandedBack result buf.entry index", "PartHandedBack result buf.entry")
+        self.told(f"asking::part, {ASKING}: contract has `PartHandedBack result buf.entry`, expected `PartHandedBack result buf.entry index`")
 
     def test_a_relation_that_says_less(self):
         part, whole = (text[0] for text in published.SLICE_TEXTS[PARTS].values())
-        self.change(PARTS, "(r .ptr ≡ s .ptr) × (r .now ≡ s .now)", "r .now ≡ s .now")
-        self.told(f"{PARTS}: `WholeOf` is `WholeOf r s = r .now ≡ s .now`, expected `{whole}`")
-        self.change(PARTS, "  pub block : r .ptr .0 ≡ s .ptr .0\n", "")
-        less = part.replace("  pub block : r .ptr .0 ≡ s .ptr .0\n", "")
+        self.change(PARTS, "(r.ref_ptr ≡ s.ref_ptr) × (r.now ≡ s.now)", "r.now ≡ s.now")
+        self.told(f"{PARTS}: `WholeOf` is `WholeOf r s = r.now ≡ s.now`, expected `{whole}`")
+        self.change(PARTS, "  pub block : r.ref_ptr.0 ≡ s.ref_ptr.0\n", "")
+        less = part.replace("  pub block : r.ref_ptr.0 ≡ s.ref_ptr.0\n", "")
         self.told(f"{PARTS}: `PartOf` is `{less}`, expected `{part}`")
         none, found = published.SLICE_TEXTS[LINES]["LineOrBoard"]
         self.change(LINES, "none = WholeOf lent board", "none = WholeOf lent s")
         self.told(f"{LINES}: `LineOrBoard` is `LineOrBoard lent s board none = WholeOf lent s / {found}`, expected `{none} / {found}`")
 
     def test_another_relation(self):
-        self.change(ASKED, "Rattle·lent_buffers.specs.LentParts.{PartOf}", "lib.Weak.{PartOf}")
-        self.told(f"asking::part, {ASKING}: PartOf is lib.Weak.PartOf, expected Rattle·lent_buffers.specs.LentParts.PartOf")
-        self.change(ASKING, "Rattle·asking·specs.specs.Asking.{copiedTo, listing, PartHandedBack, LineHandedBack}",
-                    "Rattle·asking.specs.Asking.{copiedTo, listing, PartHandedBack};\nghost use lib.Weak.{LineHandedBack}")
+        self.change(ASKED, "Rattle.lent_buffers.specs.LentParts.{PartOf}", "lib.Weak.{PartOf}")
+        self.told(f"asking::part, {ASKING}: PartOf is lib.Weak.PartOf, expected Rattle.lent_buffers.specs.LentParts.PartOf")
+        self.change(ASKING, "Rattle.asking.specs.Asking.{copied_to, listing, PartHandedBack, LineHandedBack}",
+                    "Rattle.asking.specs.Asking.{copied_to, listing, PartHandedBack};\nghost use lib.Weak.{LineHandedBack}")
         self.told(f"asking::line, {ASKING}: lib.Weak.LineHandedBack, expected a definition of a crate's specs")
 
 
 class Names(Case):
     def test_imported_from_elsewhere(self):
         self.change(LIB, "specs.Making.{begun}", "specs.Weak.{begun}")
-        self.told(f"making::begin, {LIB}: contract has Rattle·making.specs.Weak.begun, expected Rattle·making.specs.Making.begun (runWrite, {CALLS})")
+        self.told(f"making::begin, {LIB}: contract has Rattle.making.specs.Weak.begun, expected Rattle.making.specs.Making.begun (run_write, {CALLS})")
 
     def test_imported_under_another_name(self):
         self.change(LIB, "{begun}", "{kept as begun}")
-        self.told(f"making::begin, {LIB}: contract has Rattle·making.specs.Making.kept, expected Rattle·making.specs.Making.begun (runWrite, {CALLS})")
+        self.told(f"making::begin, {LIB}: contract has Rattle.making.specs.Making.kept, expected Rattle.making.specs.Making.begun (run_write, {CALLS})")
 
     def test_imported_twice_or_not(self):
         self.change(LIB, "{begun};", "{begun};\nghost use lib.Weak.{begun};")
-        self.told(f"making::begin, {LIB}: `begun` is imported twice, as Rattle·making.specs.Making.begun and as lib.Weak.begun")
+        self.told(f"making::begin, {LIB}: `begun` is imported twice, as Rattle.making.specs.Making.begun and as lib.Weak.begun")
         self.change(LIB, "{begun}", "{other}")
         self.told(f"making::begin, {LIB}: `begun` comes from no `use`, expected one")
 
     def test_another_equality(self):
-        self.change(LIB, "mathlib.Core.Path.{_≡_}", "lib.Weak.{_≡_}")
-        self.told(f"making::begin, {LIB}: ≡ is lib.Weak._≡_, expected mathlib.Core.Path._≡_")
+        self.change(LIB, "Rattle.std.specs.Prelude.{◌≡◌}", "lib.Weak.{◌≡◌}")
+        self.told(f"making::begin, {LIB}: ≡ is lib.Weak.◌≡◌, expected Rattle.std.specs.Prelude.◌≡◌")
 
     def test_a_parameter_that_hides(self):
-        self.change(ASKING, "out: &mut [u8]", "copiedTo: &mut [u8]")
-        self.change(ASKING, "(r, now (out .exit))", "(r, now (copiedTo .exit))")
-        self.change(ASKING, "(now (out .entry))", "(now (copiedTo .entry))")
-        self.told(f"asking::copy, {ASKING}: contract has `copiedTo buf copiedTo`, where a parameter hides a definition")
-        self.change(ASKING, "index: u64", "r: u64")
-        self.told(f"asking::part, {ASKING}: parameters buf, r, expected one `&mut` at most, and none named r or now")
+        self.change(ASKING, "out: &mut [u8]", "copied_to: &mut [u8]")
+        self.change(ASKING, "(result, out.new)", "(result, copied_to.new)")
+        self.change(ASKING, "out.old", "copied_to.old")
+        self.told(f"asking::copy, {ASKING}: contract has `copied_to buf copied_to`, where a parameter hides a definition")
+        self.change(ASKING, "index: u64", "result: u64")
+        self.told(f"asking::part, {ASKING}: parameters buf, result, expected one `&mut` at most, and none named result")
         self.change(CURSOR, "self, buf: &[u8]", "self, buffer: &[u8]")
         self.told(f"Cursor::step, {CURSOR}: parameters self, buffer, expected buf")
 
     def test_the_heading(self):
         self.change(ASKING, "out: &mut [u8]", "out: &mut [u8], more: &mut [u8]")
-        self.change(CALLS, "replyOf (copy out) b", "replyOf (copy out more) b")
-        self.told(f"asking::copy, {ASKING}: parameters buf, out, more, expected one `&mut` at most, and none named r or now")
+        self.change(CALLS, "reply_of (copy out) b", "reply_of (copy out more) b")
+        self.told(f"asking::copy, {ASKING}: parameters buf, out, more, expected one `&mut` at most, and none named result")
         self.change(ASKING, "index: u64", "(index, more): (u64, u64)")
         self.told(f"asking::part, {ASKING}: a parameter `buf: &[u8], (index, more): (u64, u64)`, expected a name and a type, or self")
         self.change(ASKING, "pub fn size(buf: &[u8]) -> u32\n", "pub fn size(buf: &[u8]) -> u32 // long\n")
@@ -559,93 +559,93 @@ class Names(Case):
 
 class Demand2(Case):
     def test_a_case_that_is_not_run(self):
-        self.change(CALLS, "replyOf (step k) b = stepped (stepOf b k)\n", "")
-        self.told(f"Cursor::step, {CURSOR}: `replyOf` of `step`, {CALLS}: 0 equations, expected one, of a call and a buffer")
+        self.change(CALLS, "reply_of (step k) b = stepped (step_of b k)\n", "")
+        self.told(f"Cursor::step, {CURSOR}: `reply_of` of `step`, {CALLS}: 0 equations, expected one, of a call and a buffer")
 
     def test_an_equation_for_no_case(self):
-        self.change(CALLS, "replyOf askSize b =", "replyOf k b =")
-        self.told(f"asking::size, {ASKING}: `replyOf` of `askSize`, {CALLS}: 0 equations, expected one, of a call and a buffer",
-                  f"{CALLS}: `replyOf` has an equation for `k`, expected a case")
+        self.change(CALLS, "reply_of ask_size b =", "reply_of k b =")
+        self.told(f"asking::size, {ASKING}: `reply_of` of `ask_size`, {CALLS}: 0 equations, expected one, of a call and a buffer",
+                  f"{CALLS}: `reply_of` has an equation for `k`, expected a case")
 
     def test_a_call_that_no_case_names(self):
         self.change(CALLS, "`making::add_module`, `add_line`", "`making::add_module`")
         self.told(f"making::add_line, {ADDS}: 0 cases of demand 2 name it, expected one",
-                  f"{ADDITIONS}: `Addition.addLine` stands for no call, expected one")
+                  f"{ADDITIONS}: `Addition.add_line` stands for no call, expected one")
 
     def test_a_call_that_two_cases_name(self):
         self.change(CALLS, "  -- `asking::part`", "  -- `asking::part`, `size`")
         self.told(f"asking::size, {ASKING}: 2 cases of demand 2 name it, expected one")
 
     def test_a_case_for_no_published_call(self):
-        self.change(CALLS, "  askSize : Question\n", "  askSize : Question\n  askMore : Question\n")
-        self.told(f"{CALLS}: case `askMore` stands for no call, expected calls that docs/CALLS.md publishes")
+        self.change(CALLS, "  ask_size : Question\n", "  ask_size : Question\n  ask_more : Question\n")
+        self.told(f"{CALLS}: case `ask_more` stands for no call, expected calls that docs/CALLS.md publishes")
         self.change(PAGE, "| `asking::size(buf) -> u32` | the same | the length of `listing` |\n", "")
-        self.told(f"{CALLS}: case `askSize` stands for asking::size, expected calls that docs/CALLS.md publishes", "asking::size" + UNPUBLISHED)
-        self.change(FROM_C, "  ultraLook :", "  ultraMore : QuestionFromC\n  ultraLook :")
-        self.told(f"{FROM_C}: case `ultraMore` stands for ultra_more, expected calls that docs/CALLS.md publishes")
+        self.told(f"{CALLS}: case `ask_size` stands for asking::size, expected calls that docs/CALLS.md publishes", "asking::size" + UNPUBLISHED)
+        self.change(FROM_C, "  ultra_look :", "  ultra_more : QuestionFromC\n  ultra_look :")
+        self.told(f"{FROM_C}: case `ultra_more` stands for ultra_more, expected calls that docs/CALLS.md publishes")
 
     def test_another_buffer_handed_back(self):
-        written, kept = "run (write w) b = runWrite w b", "run (ask q) b = (replyOf q b, b)"
-        self.change(CALLS, "(replyOf q b, b)", "(replyOf q b, zeroed b)")
-        self.told(f"demand_2: `{written}`, `run (ask q) b = (replyOf q b, zeroed b)`, expected `{written}`, `{kept}`")
-        self.change(CALLS, "(replyOf q b, b)", "(replyOf q b, [])")
-        self.told(f"demand_2: `{written}`, `run (ask q) b = (replyOf q b, [])`, expected `{written}`, `{kept}`")
+        written, kept = "run (write w) b = run_write w b", "run (ask q) b = (reply_of q b, b)"
+        self.change(CALLS, "(reply_of q b, b)", "(reply_of q b, zeroed b)")
+        self.told(f"demand_2: `{written}`, `run (ask q) b = (reply_of q b, zeroed b)`, expected `{written}`, `{kept}`")
+        self.change(CALLS, "(reply_of q b, b)", "(reply_of q b, [])")
+        self.told(f"demand_2: `{written}`, `run (ask q) b = (reply_of q b, [])`, expected `{written}`, `{kept}`")
         self.change(CALLS, "run (ask q) b", "run (ask read) b = (reading (looked b), [])\nrun (ask q) b")
         self.told(f"demand_2: `{written}`, `run (ask read) b = (reading (looked b), [])`, `{kept}`, expected `{written}`, `{kept}`")
-        written, kept = "runFromC (writeFromC w) b = runWriteFromC w b", "runFromC (askFromC q) b = (replyFromC q b, b)"
-        self.change(FROM_C, written, "runFromC (writeFromC w) b = (runWriteFromC w b .0, b)")
-        self.told(f"demand_2: `runFromC (writeFromC w) b = (runWriteFromC w b .0, b)`, `{kept}`, expected `{written}`, `{kept}`")
+        written, kept = "run_from_c (write_from_c w) b = run_write_from_c w b", "run_from_c (ask_from_c q) b = (reply_from_c q b, b)"
+        self.change(FROM_C, written, "run_from_c (write_from_c w) b = (run_write_from_c w b.0, b)")
+        self.told(f"demand_2: `run_from_c (write_from_c w) b = (run_write_from_c w b.0, b)`, `{kept}`, expected `{written}`, `{kept}`")
 
     def test_writing_and_reading(self):
         self.change(CALLS, "  -- `making::begin`\n  begin : Write\n", "")
-        self.change(CALLS, "runWrite begin b = answerAnd (begun b)\n", "")
-        self.change(CALLS, "  askSize : Question\n", "  askSize : Question\n  -- `making::begin`\n  begin : Question\n")
-        self.change(CALLS, "replyOf askSize b", "replyOf begin b = copied (begun b)\nreplyOf askSize b")
-        self.told(f"making::begin, {LIB}: contract of the form `(r, now (buf .exit)) ≡ ..`, "
-                  f"expected `an equation that leaves buf as it is` (replyOf, {CALLS})")
+        self.change(CALLS, "run_write begin b = answer_and (begun b)\n", "")
+        self.change(CALLS, "  ask_size : Question\n", "  ask_size : Question\n  -- `making::begin`\n  begin : Question\n")
+        self.change(CALLS, "reply_of ask_size b", "reply_of begin b = copied (begun b)\nreply_of ask_size b")
+        self.told(f"making::begin, {LIB}: contract of the form `(result, buf.new) ≡ ..`, "
+                  f"expected `an equation that leaves buf as it is` (reply_of, {CALLS})")
         self.change(CALLS, "  -- `asking::copy`\n  copy : List ℕ → Question\n", "")
-        self.change(CALLS, "replyOf (copy out) b =\n    copied (copiedTo b out) -- over two lines\n", "")
+        self.change(CALLS, "reply_of (copy out) b =\n    copied (copied_to b out) -- over two lines\n", "")
         self.change(CALLS, "  begin : Write\n", "  begin : Write\n  -- `asking::copy`\n  copy : List ℕ → Write\n")
-        self.change(CALLS, "runWrite begin b", "runWrite (copy out) b = answerAnd (copiedTo b out)\nrunWrite begin b")
+        self.change(CALLS, "run_write begin b", "run_write (copy out) b = answer_and (copied_to b out)\nrun_write begin b")
         self.told(f"asking::copy, {ASKING}: contract of the form `an equation that leaves buf as it is`, "
-                  f"expected `(r, now (buf .exit)) ≡ ..` (runWrite, {CALLS})")
+                  f"expected `(result, buf.new) ≡ ..` (run_write, {CALLS})")
 
     def test_what_hands_on(self):
-        self.change(CALLS, "stepped (stepOf", "constant (stepOf")
-        self.told(f"Cursor::step, {CURSOR}: `replyOf` of `step`, {CALLS}: the reply `constant (stepOf b k)`, "
-                  "expected a case of Reply with one term, or `lentPart b ..` or `lentLine b ..`")
-        self.change(CALLS, "(answer (r .0), r .1)", "(answer (r .0), [])")
-        self.told("demand_2: `answerAnd r = (answer (r .0), [])`, expected `answerAnd r = (answer (r .0), r .1)`")
-        self.change(CALLS, "lentLine b board none = boardText board", "lentLine b board none = boardText b")
-        rest = "lentLine b board (found o a) = lentPart b (bodyPart o (a .body))"
-        self.told(f"demand_2: `lentLine b board none = boardText b`, `{rest}`, expected `lentLine b board none = boardText board`, `{rest}`")
-        self.change(CALLS, "(several (r .0), r .1)", "(several (r .0), [])")
-        self.told("demand_2: `severalAnd r = (several (r .0), [])`, expected `severalAnd r = (several (r .0), r .1)`")
+        self.change(CALLS, "stepped (step_of", "constant (step_of")
+        self.told(f"Cursor::step, {CURSOR}: `reply_of` of `step`, {CALLS}: the reply `constant (step_of b k)`, "
+                  "expected a case of Reply with one term, or `lent_part b ..` or `lent_line b ..`")
+        self.change(CALLS, "(answer r.0, r.1)", "(answer r.0, [])")
+        self.told("demand_2: `answer_and r = (answer r.0, [])`, expected `answer_and r = (answer r.0, r.1)`")
+        self.change(CALLS, "lent_line b board none = board_text board", "lent_line b board none = board_text b")
+        rest = "lent_line b board (found o a) = lent_part b (body_part o a.body)"
+        self.told(f"demand_2: `lent_line b board none = board_text b`, `{rest}`, expected `lent_line b board none = board_text board`, `{rest}`")
+        self.change(CALLS, "(several r.0, r.1)", "(several r.0, [])")
+        self.told("demand_2: `several_and r = (several r.0, [])`, expected `several_and r = (several r.0, r.1)`")
 
     def test_what_cannot_be_read(self):
-        self.change(CALLS, "replyOf askSize b = number (length (listing b))", "replyOf askSize b = length (listing b)")
-        self.told(f"asking::size, {ASKING}: `replyOf` of `askSize`, {CALLS}: the reply `length (listing b)`, "
-                  "expected a case of Reply with one term, or `lentPart b ..` or `lentLine b ..`")
+        self.change(CALLS, "reply_of ask_size b = number (length (listing b))", "reply_of ask_size b = length (listing b)")
+        self.told(f"asking::size, {ASKING}: `reply_of` of `ask_size`, {CALLS}: the reply `length (listing b)`, "
+                  "expected a case of Reply with one term, or `lent_part b ..` or `lent_line b ..`")
         self.change(CALLS, "number (length (listing b))", "(number (length (listing b)), b)")
-        self.told(f"asking::size, {ASKING}: `replyOf` of `askSize`, {CALLS}: the reply `number (length (listing b)), b`, "
-                  "expected a case of Reply with one term, or `lentPart b ..` or `lentLine b ..`")
-        self.change(CALLS, "stepped (stepOf b k)", "[]")
-        self.told(f"Cursor::step, {CURSOR}: `replyOf` of `step`, {CALLS}: `[` in `[]`, expected names and parentheses alone")
-        self.change(CALLS, "answerAnd (begun b)", "(answer (begun b .0), b)")
-        self.told(f"making::begin, {LIB}: `runWrite` of `begin`, {CALLS}: `answer (begun b .0), b`, expected `answerAnd (..)`, "
-                  "`severalAnd (..)` or `numberAnd (..)`")
-        self.change(CALLS, "membersFormed (lineMembers text) = lineFormed text", "membersFormed (lineMembers text)")
-        broken = f"{CALLS}: `membersFormed (lineMembers text)`, expected an equation"
+        self.told(f"asking::size, {ASKING}: `reply_of` of `ask_size`, {CALLS}: the reply `number (length (listing b)), b`, "
+                  "expected a case of Reply with one term, or `lent_part b ..` or `lent_line b ..`")
+        self.change(CALLS, "stepped (step_of b k)", "[]")
+        self.told(f"Cursor::step, {CURSOR}: `reply_of` of `step`, {CALLS}: `[` in `[]`, expected names and parentheses alone")
+        self.change(CALLS, "answer_and (begun b)", "(answer (begun b.0), b)")
+        self.told(f"making::begin, {LIB}: `run_write` of `begin`, {CALLS}: `answer (begun b.0), b`, expected `answer_and (..)`, "
+                  "`several_and (..)` or `number_and (..)`")
+        self.change(CALLS, "members_formed (line_members text) = line_formed text", "members_formed (line_members text)")
+        broken = f"{CALLS}: `members_formed (line_members text)`, expected an equation"
         self.told(*(f"making::members::{name}, {MEMBERS}: {broken}" for name in ("add_module", "add_line")))
         (self.root / ADDITIONS).unlink()
         self.told(f"{ADDITIONS}: no cases of data Addition")
 
     def test_members(self):
-        self.change(CALLS, "= moduleOf kind name", "= moduleOf name kind")
-        self.told(f"making::members::add_module, {MEMBERS}: contract has `addedMembers buf true (moduleOf sort name)`, "
-                  f"expected `addedMembers buf true (moduleOf name sort)` (runWrite, {CALLS})")
-        self.change(CALLS, "membersFormed (moduleMembers kind name) = true\n", "")
-        self.told(f"making::members::add_module, {MEMBERS}: no equation of `membersFormed` for `moduleMembers sort name`, {CALLS}")
+        self.change(CALLS, "= module_of kind name", "= module_of name kind")
+        self.told(f"making::members::add_module, {MEMBERS}: contract has `added_members buf true (module_of sort name)`, "
+                  f"expected `added_members buf true (module_of name sort)` (run_write, {CALLS})")
+        self.change(CALLS, "members_formed (module_members kind name) = true\n", "")
+        self.told(f"making::members::add_module, {MEMBERS}: no equation of `members_formed` for `module_members sort name`, {CALLS}")
 
     def test_the_number_of_parameters(self):
         self.change(CURSOR, "self, buf: &[u8]", "self, buf: &[u8], more: u32")
@@ -658,30 +658,30 @@ class Payloads(Case):
         self.told(f"paying::write, {PAYING}: has `requires`, `ensures`, expected one `ensures` and no `requires`")
 
     def test_parameters_left_out_or_exchanged(self):
-        self.change(PAYING, "≡ payloadOf (now (buf .entry)) (now (run .entry))", "≡ payloadOf (now (run .entry)) (now (buf .entry))")
-        self.told(f"paying::write, {PAYING}: contract has `payloadOf run buf`, expected `payloadOf buf run`")
-        self.change(PAYING, "NameHandedBack r (buf .entry) index", "NameHandedBack r (buf .entry)")
-        self.told(f"paying::named, {PAYING}: contract has `NameHandedBack r (buf .entry)`, expected `NameHandedBack r (buf .entry) index`")
+        self.change(PAYING, "≡ payload_of buf.old run.now", "≡ payload_of run.now buf.old")
+        self.told(f"paying::write, {PAYING}: contract has `payload_of run buf`, expected `payload_of buf run`")
+        self.change(PAYING, "NameHandedBack result buf.entry index", "NameHandedBack result buf.entry")
+        self.told(f"paying::named, {PAYING}: contract has `NameHandedBack result buf.entry`, expected `NameHandedBack result buf.entry index`")
 
     def test_a_definition_that_no_promise_speaks_of(self):
-        self.change(PAYING, "≡ payloadOf (now", "≡ other (now")
-        self.told(f"paying::write, {PAYING}: docs/CALLS.md names `payloadOf` first, expected `other`",
+        self.change(PAYING, "≡ payload_of buf", "≡ other buf")
+        self.told(f"paying::write, {PAYING}: docs/CALLS.md names `payload_of` first, expected `other`",
                   f"paying::write, {PAYING}: no promise on payloads speaks of `other`")
-        self.change(READS, "Rattle·paying", "Rattle·elsewhere")
+        self.change(READS, "Rattle.paying", "Rattle.elsewhere")
         self.told(f"paying::named, {PAYING}: no promise on payloads speaks of `NameHandedBack`")
 
     def test_another_part(self):
-        self.change(PAYING, "NameHandedBack r (buf .entry) index", "MetaHandedBack r (buf .entry) index")
+        self.change(PAYING, "NameHandedBack result buf.entry index", "MetaHandedBack result buf.entry index")
         self.told(f"paying::named, {PAYING}: docs/CALLS.md names `NameHandedBack` first, expected `MetaHandedBack`",
                   f"paying::named, {PAYING}: no promise on payloads speaks of `MetaHandedBack`")
 
 
 class Page(Case):
     def test_another_definition(self):
-        self.change(PAGE, "| `stepOf` |", "| `lookOf` |")
-        self.told(f"Cursor::step, {CURSOR}: docs/CALLS.md names `lookOf` first, expected `stepOf`")
-        self.change(PAGE, "| 2 | `addedMembers` of `moduleOf` |", "| 2 | `crossed` |")
-        self.told(f"ultra_add_module, {C}: docs/CALLS.md names `crossed` first, expected `addedMembers`")
+        self.change(PAGE, "| `step_of` |", "| `look_of` |")
+        self.told(f"Cursor::step, {CURSOR}: docs/CALLS.md names `look_of` first, expected `step_of`")
+        self.change(PAGE, "| 2 | `added_members` of `module_of` |", "| 2 | `crossed` |")
+        self.told(f"ultra_add_module, {C}: docs/CALLS.md names `crossed` first, expected `added_members`")
         self.change(PAGE, "the length of `listing`", "the length")
         self.told(f"asking::size, {ASKING}: docs/CALLS.md names `nothing` first, expected `listing`")
 
@@ -689,13 +689,15 @@ class Page(Case):
         more = ("pub use adds::add_line;", "pub use adds::add_line;\npub use adds::add_more;\npub use adds::More;")
         self.change(LIB, *more)
         self.told("making::add_more" + UNPUBLISHED)
+        self.change(LIB, "pub use adds::add_line;", "pub use adds::{add_line, add_more, More};")
+        self.told("making::add_more" + UNPUBLISHED)
         with mock.patch.object(published, "INNER", {"making::add_more", "elsewhere::room"}):
             self.change(LIB, *more)
             self.told()
             self.told("making::add_more: in INNER of published.py, expected a public function")
 
     def test_an_exported_function_that_is_not_there(self):
-        self.change(C, "// fn ultra_look, in a comment", '#[no_mangle]\npub extern "C" fn ultra_more() -> u64\n{\n    0\n}\n')
+        self.change(C, "// fn ultra_look, in a comment", '#[unsafe(no_mangle)]\npub extern "C" fn ultra_more() -> u64\n{\n    0\n}\n')
         self.told(f"ultra_more, {C}: exported, expected in docs/CALLS.md")
 
     def test_a_call_twice(self):
@@ -717,7 +719,7 @@ class Main(Case):
     def test_status(self):
         line = "published: 15 calls, each an equation with the definition that docs/CALLS.md and a promise name\n"
         self.assertEqual(self.run_main(), (0, line))
-        self.change(CURSOR, "cursorAt 0 8", "cursorAt 1 8")
+        self.change(CURSOR, "cursor_at 0 8", "cursor_at 1 8")
         self.assertEqual(self.run_main()[0], 1)
 
 

@@ -27,6 +27,7 @@ FEWEST_ROWS = 100
 WIDTH, WIDEST = 140, 160
 UNFINISHED = "TODO"
 LABELS = ("quoted", "stated", "checked", "proved", "run", "must fail", "note", "open")
+PROOFS = ("Invariants", "Answers", "Proof")
 KINDS = {"checked": "src", "proved": "proofs", "must fail": "must-fail"}
 INDEX_HEAD = "| Page | Rows | Open |\n|---|---|---|\n"
 FILES_HEAD = "# The files that the rows name\n\nIn short, and where they are. Written by `make traceability`.\n\n"
@@ -200,8 +201,9 @@ class Table:
         """The place of a name; of a function also its proof, if one was written."""
         path, number = (self.names.places(name) or [("nowhere", 0)])[0]
         program = PROGRAM.fullmatch(path)
-        proof = f"crates/{program[1]}/proofs/{'/'.join(name.split('::')[1:])}/Proof.antt" if program else ""
-        return at(path, number) + (f", proof: {proof}" if proof in self.names.paths else "")
+        folder = f"crates/{program[1]}/proofs/{'/'.join(name.split('::')[1:])}" if program else ""
+        written = [proof for proof in (f"{folder}/{file}.antt" for file in PROOFS) if proof in self.names.paths]
+        return at(path, number) + (f", proof: {', '.join(written)}" if written else "")
 
 
 def at(path, number):

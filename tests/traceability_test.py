@@ -28,17 +28,17 @@ pub record Meets (fewest : ℕ) : Type 0 where
   pub two : 1 ≤ 2
 
 -- ---- "a section"
-abbrev pub roomOf : List ℕ → ℕ
-roomOf b =
+abbrev pub room_of : List ℕ → ℕ
+room_of b =
     -- "within the definition"
     min (length b) 65536
 
 helper : ℕ
 
 pub data Rules (b : List ℕ) : ℕ → Type 0 where
-  short : roomOf b < 8 → Rules b SHORT
+  short : room_of b < 8 → Rules b SHORT
 
-unfoldable pub bothOf : ℕ
+unfoldable pub both_of : ℕ
 
 -- "of a private one"
 other : ℕ
@@ -46,7 +46,7 @@ pub another : ℕ
 """
 FILES = {
     "crates/rules/specs/Rules.antt": RULES,
-    "crates/rules/proofs/Rules.antt": "helper : ℕ\n\nmodule (b : ℕ) where\n  pub says-decoded : ℕ\n",
+    "crates/rules/proofs/Rules.antt": "helper : ℕ\n\nmodule (b : ℕ) where\n  pub says_decoded : ℕ\n",
     "crates/rules/specs/Shared.antt": "pub one : ℕ\n",
     "crates/other/specs/Shared.antt": "pub one : ℕ\n",
     "crates/rules/src/lib.rt": 'pub const SHORT: u32 = 1;\n\npub extern "C" fn ultra_read(buf: &[u8]) -> u64\n',
@@ -66,7 +66,8 @@ pub enum Step {
     Attribute(Header, Cursor)
 }
 """,
-    "crates/rules/proofs/head/Cursor/step/Proof.antt": "step : ℕ\n",
+    "crates/rules/proofs/head/Cursor/step/Answers.antt": "step : ℕ\n",
+    "crates/rules/proofs/head/Cursor/step/Invariants.antt": "loop : ℕ\n",
     "crates/rules/must-fail/wrong.edit": "old\n",
     "crates/cases_a/stdout": "map of 40 - 1: no\nmap of 40: refused 12\n  part length 0\n",
     "crates/cases_b/stdout": "map of 40: done\n",
@@ -94,7 +95,7 @@ class Case(unittest.TestCase):
         self.root = folder.name
         for path, text in FILES.items():
             self.write(path, text)
-        self.page(*(row(f"sentence {n}", "- stated: `Rules.roomOf`") for n in range(traceability.FEWEST_ROWS)), name="02-full.md")
+        self.page(*(row(f"sentence {n}", "- stated: `Rules.room_of`") for n in range(traceability.FEWEST_ROWS)), name="02-full.md")
 
     def write(self, path, text):
         place = os.path.join(self.root, path)
@@ -132,14 +133,14 @@ class ShortNames(Case):
 
     def test_definitions(self):
         specs, proofs = "crates/rules/specs/Rules.antt", "crates/rules/proofs/Rules.antt"
-        for name, place in {"Meets": (specs, 5), "Meets.most": (specs, 9), "roomOf": (specs, 15), "short": (specs, 23), "Rules": (specs, 22),
-                            "bothOf": (specs, 25), "says-decoded": (proofs, 4)}.items():
+        for name, place in {"Meets": (specs, 5), "Meets.most": (specs, 9), "room_of": (specs, 15), "short": (specs, 23), "Rules": (specs, 22),
+                            "both_of": (specs, 25), "says_decoded": (proofs, 4)}.items():
             self.assertEqual(self.places("Rules." + name), [place], name)
-        self.none("Rules.most", "Rules.helper", "Rules.room", "Rules.fewest", "Rules.Meets.short", "Rules.b", "Meets.most", "roomOf")
+        self.none("Rules.most", "Rules.helper", "Rules.room", "Rules.fewest", "Rules.Meets.short", "Rules.b", "Meets.most", "room_of")
 
     def test_the_crate_before(self):
         self.assertEqual(self.places("rules/Shared.one"), [("crates/rules/specs/Shared.antt", 1)])
-        self.none("Shared.one", "rules/Rules.roomOf")
+        self.none("Shared.one", "rules/Rules.room_of")
 
     def test_functions(self):
         self.assertEqual(self.places("rules::SHORT"), [("crates/rules/src/lib.rt", 1)])
@@ -179,7 +180,7 @@ class Quotes(Case):
         self.assertEqual(found, {
             "At the top": None, "major is at least 1": "Rules.Meets", "minor is free": "Rules.Meets",
             "the count is 2 to 1,024": "Rules.Meets.enough", "one of two": None, "two of two": None, "a section": None,
-            "within the definition": "Rules.roomOf", "of a private one": None})
+            "within the definition": "Rules.room_of", "of a private one": None})
 
     def test_the_rows_of_a_quote(self):
         sentences = ["7 TYPE .. type 0", "no type 0 at all.", "of type 0 or 1", "type 1 size 8"]
@@ -192,7 +193,7 @@ class Quotes(Case):
 class Rows(Case):
     def test_good_rows(self):
         self.assertEqual(self.problems(
-            row("s", "- stated: `Rules.roomOf` (a note), `notes.md: A1`", "- checked: `rules::SHORT`", "- proved: `Rules.says-decoded`",
+            row("s", "- stated: `Rules.room_of` (a note), `notes.md: A1`", "- checked: `rules::SHORT`", "- proved: `Rules.says_decoded`",
                 "- run in cases_a/stdout: `map of 40`, `part length 0`", "- run: `every.txt: used`", "- must fail: `wrong.edit`"),
             row("t", "- note: by its reader"), row("u", "- open: request R-1")), [])
 
@@ -201,9 +202,9 @@ class Rows(Case):
             "`Rules.lob` is nowhere", "`layout.c: see_lob` is nowhere", "`stdout` is at crates/cases_a/stdout:0, crates/cases_b/stdout:0"])
 
     def test_kinds(self):
-        self.assertEqual(self.problems(row("s", "- checked: `Rules.roomOf`", "- proved: `Rules.roomOf`", "- must fail: `Rules.roomOf`")), [
-            f"`Rules.roomOf` is in crates/rules/specs/Rules.antt, not in a crate's {kind}" for kind in ("must-fail", "proofs", "src")])
-        self.assertEqual(self.problems(row("s", "- prooved: `Rules.roomOf`", "- none: x", "- note:")),
+        self.assertEqual(self.problems(row("s", "- checked: `Rules.room_of`", "- proved: `Rules.room_of`", "- must fail: `Rules.room_of`")), [
+            f"`Rules.room_of` is in crates/rules/specs/Rules.antt, not in a crate's {kind}" for kind in ("must-fail", "proofs", "src")])
+        self.assertEqual(self.problems(row("s", "- prooved: `Rules.room_of`", "- none: x", "- note:")),
                          ["no label 'none'", "no label 'prooved'", "nothing after 'note'"])
 
     def test_nothing_but_a_sentence(self):
@@ -211,9 +212,9 @@ class Rows(Case):
         self.assertEqual(self.problems('"not marked as a sentence"\n- note: x\n'), ["below no sentence: - note: x"])
 
     def test_quoted_by_hand_too(self):
-        good = row("major is at least 1", "- stated: `Rules.roomOf`")
+        good = row("major is at least 1", "- stated: `Rules.room_of`")
         self.assertEqual(self.problems(good), [])
-        self.assertIn("- quoted: `Rules.Meets`\n- stated: `Rules.roomOf`\n", self.read("01-page.md"))
+        self.assertIn("- quoted: `Rules.Meets`\n- stated: `Rules.room_of`\n", self.read("01-page.md"))
         self.assertEqual(self.problems(row("major is at least 1", "- stated: `Rules.Meets`")), ["`Rules.Meets` is quoted already"])
 
     def test_twice_and_to_do(self):
@@ -226,7 +227,7 @@ class Rows(Case):
 
     def test_names_of_the_index(self):
         index = self.read("README.md")
-        self.write("docs/traceability/README.md", index + '\n    **"s"**\n    - run in layout.c: `see_map`\n\n| `Rules.roomOf`, `lob` | x |\n')
+        self.write("docs/traceability/README.md", index + '\n    **"s"**\n    - run in layout.c: `see_map`\n\n| `Rules.room_of`, `lob` | x |\n')
         self.assertEqual(self.problems(row("s", "- note: x")), ["`lob` is nowhere"])
         self.write("docs/traceability/README.md", index + '\n    **"s"**\n    - run in layout.c: `see_lob`\n')
         self.assertEqual(self.problems(row("s", "- note: x")), ["`layout.c: see_lob` is nowhere"])
@@ -298,7 +299,8 @@ class Main(Case):
             status, said = self.run_main("--where", word)
             self.assertEqual(status, 0)
             self.assertIn('docs/traceability/01-page.md:3: "Page aligned"\n', said)
-            self.assertIn("crates/rules/src/head.rt:6, proof: crates/rules/proofs/head/Cursor/step/Proof.antt\n", said)
+            self.assertIn("crates/rules/src/head.rt:6, proof: crates/rules/proofs/head/Cursor/step/Invariants.antt, "
+                          "crates/rules/proofs/head/Cursor/step/Answers.antt\n", said)
             self.assertIn("tests/layout.c:4\n", said)
         self.assertIn("Rules.Meets: crates/rules/specs/Rules.antt:5\n", self.run_main("--where", "Rules.Meets")[1])
         self.assertEqual(self.run_main("--where", "lob")[0], 1)

@@ -40,14 +40,14 @@ INTRODUCTION = """\
 
 A contract that many wrong programs meet proves little. So wrong programs are tried: each is an edit of a crate, one file an edit in
 `crates/NAME/must-fail/LABEL.edit`, and the prover has to refuse the crate with that edit. `make test` tries all of them and fails where one
-is not refused; `rt must-fail NAME` tries those of one crate and of every crate that it depends on.
+is not refused; `rt must-fail NAME` tries those of one crate.
 
 - A label without `spec_` is a wrong program: the edit changes the code and leaves the contract.
 - A label `spec_..` is a wrong definition or statement: the edit leaves the program. That it is refused shows that the proof rests on that
   word.
 - A row without a label is ruled out by the contract or the statement, and no edit tries it.
 - A refusal has its number in the table of docs/CALLS.md, 1 to 23: "refused as 11", "17 comes after 9 to 16".
-- What the prover says of an edit is in `target/must-fail/NAME/LABEL/.log`, after `make test` or `rt must-fail NAME`.
+- `rt must-fail NAME` prints what the prover says of each edit.
 
 Each row says what is wrong, in the words of the edit's own line `wrong:`. A row in bold names what rules out those below it. This page is
 written by `make wrong-programs`; `make test-wrong-programs` fails where it is not what the edits say.
@@ -135,14 +135,14 @@ SECTIONS = [
         "Demand 2",
         "`Demand2` is in crates/demand_2/specs/Demand2.antt, its witness in specs/Witness.antt.",
         [
-            "`Demand2.begins`, `Demand2.beginsNot`",
+            "`Demand2.begins`, `Demand2.begins_not`",
             "`Demand2.follows`",
             "`Demand2.answers`, `Demand2.steps`",
             "`Demand2.members`",
             "`Demand2.refusals`",
-            "`Demand2.stays`, `Demand2.appendsModules`",
+            "`Demand2.stays`, `Demand2.appends_modules`",
             "`Demand2.appends`",
-            "`Demand2.readsBack`",
+            "`Demand2.reads_back`",
             "`Demand2.rebuilds`",
             "the premises and the witness of demand 2",
         ],
@@ -152,7 +152,7 @@ SECTIONS = [
         "`Demand3` is in crates/demand_3/specs/Demand3.antt.",
         [
             "`Demand3.accepts`",
-            "`Demand3.oneLength`",
+            "`Demand3.one_length`",
             "`Demand3.reads`",
             "`Demand3.silent`",
             "`Demand3.faithful`",
