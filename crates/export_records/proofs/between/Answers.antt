@@ -28,7 +28,7 @@ rest c =
 rest2 : (c : After-of_type-files) → RowsFit c.of_type-files.new.out c.of_type-files.result (after_files (start_of c))
 rest2 c =
     let rest' : RowsFit c.of_type-ranges.new.out c.of_type-ranges.result (after_ranges c) =
-rows_rest c.args.out.now c.args.m (these c.before.before.before.before 3) (after_ranges c.before.before.before.before) (these c.before.before.before.before 3 ++ after_ranges c.before.before.before.before) refl c.requires.rows_fit _ _ c.of_type-ranges.ensures c.of_type-ranges.auto.out in
+        rows_rest c.args.out.now c.args.m (these c.before.before.before.before 3) (after_ranges c.before.before.before.before) (these c.before.before.before.before 3 ++ after_ranges c.before.before.before.before) refl c.requires.rows_fit _ _ c.of_type-ranges.ensures c.of_type-ranges.auto.out in
     rows_rest c.of_type-ranges.last.1.1.0 c.of_type-ranges.result (these c.before.before.before.before.before.before.before.before 4) (after_files c.before.before.before.before.before.before.before.before) (after_ranges c.before.before.before.before.before.before.before.before) refl rest' _ _ c.of_type-files.ensures c.of_type-files.auto.out
 
 pub of_type-ranges-requires : goal.of_type-ranges-requires

@@ -19,7 +19,7 @@ small c = let e = c.agent-m.ensures in (omega (arith, ap (λ (m : Extent). m.cou
 most : (c : After-of_type-m-3) → (c.of_type-m-3.result.count ≤ 201326592) × (c.of_type-m-3.result.width ≤ 201326625)
 most c =
     let small' : (c.agent-m.result.count ≤ 0) × (c.agent-m.result.width ≤ 33) =
-let e = c.agent-m.ensures in (omega (arith, ap (λ (m : Extent). m.count) e.0), e.1) in
+        let e = c.agent-m.ensures in (omega (arith, ap (λ (m : Extent). m.count) e.0), e.1) in
     let h = small' in
     let p = c.of_type-m.ensures in
     let q = c.of_type-m-2.ensures in

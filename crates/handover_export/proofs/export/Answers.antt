@@ -29,11 +29,11 @@ sizes c = size_is (agent_of (context_of (start_of c).args.buf.now)) _ _ c.payloa
 said : (c : After-check-number) → let a = (start_of (told c)).args in c.check-number.result ≡ export_check (context_of a.buf.now) a.load (room_of a.out.now)
 said c =
     let accepts' : Accepts c.args.buf.now =
-(_, sym c.used_length-answer.ensures ∙ c.in-Done.is) in
+        (_, sym c.used_length-answer.ensures ∙ c.in-Done.is) in
     let counts' : c.payload-payload.result.count ≡ length (entries_of 0 0 (context_of (start_of c).args.buf.now).attributes) =
-count_is (agent_of (context_of (start_of c).args.buf.now)) _ _ c.payload-payload.ensures.0 in
+        count_is (agent_of (context_of (start_of c).args.buf.now)) _ _ c.payload-payload.ensures.0 in
     let sizes' : 16 + 32 * c.payload-payload.result.count + c.payload-payload.result.width ≡ export_size (context_of (start_of c).args.buf.now) =
-size_is (agent_of (context_of (start_of c).args.buf.now)) _ _ c.payload-payload.ensures.0 in
+        size_is (agent_of (context_of (start_of c).args.buf.now)) _ _ c.payload-payload.ensures.0 in
     let a = (start_of c.before.before.before.before.before).args in
     let r = c.rsdp-rsdp.ensures ∙ rsdp_is a.buf.now accepts' in
     c.check-number.ensures ∙ (λ j. tests_of (counts' j) (sizes' j) a.load (r j) (c.room-room.ensures j))

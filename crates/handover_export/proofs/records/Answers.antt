@@ -50,12 +50,12 @@ fit c =
 rest : (c : After-bare-first) → RowsFit c.bare-first.new.out c.bare-first.result (inner (start_of c) ++ last)
 rest c =
     let fit' : RowsFit c.args.out.now c.agent-agent.result (all c) =
-let x = context_of c.args.buf.now in
-    let l = x.attributes in
-    record {
-      room = omega (arith, c.requires.buf_in_bounds.0, none c, entries_length l c.args.load c.args.size);
-      strings = omega (arith, c.requires.buf_in_bounds.1, named c, length-append (closed (agent_of x)) (strings (between l)), ap length (entries_strings l c.args.load c.args.size));
-    } in
+        let x = context_of c.args.buf.now in
+        let l = x.attributes in
+        record {
+          room = omega (arith, c.requires.buf_in_bounds.0, none c, entries_length l c.args.load c.args.size);
+          strings = omega (arith, c.requires.buf_in_bounds.1, named c, length-append (closed (agent_of x)) (strings (between l)), ap length (entries_strings l c.args.load c.args.size));
+        } in
     rows_rest c.args.out.now c.agent-agent.result (first c.before.before.before.before.before) (inner c.before.before.before.before.before ++ last) (all c.before.before.before.before.before) refl fit' _ _ c.bare-first.ensures c.bare-first.auto.out
 
 pub bare-first-requires : goal.bare-first-requires

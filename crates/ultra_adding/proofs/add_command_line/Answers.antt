@@ -21,7 +21,7 @@ here : (c : In-Done)
 unfolding body_given
 here c =
     let add' : Adds c.args.buf.now c.raise_count-answer.new.buf true (body c) c.raise_count-answer.result c.size-size.result =
-adds c.raise_count-answer.ensures refl c.check-number.ensures c.size-size.ensures in
+        adds c.raise_count-answer.ensures refl c.check-number.ensures c.size-size.ensures in
     add'.space c.answer-1.type_inv.1
 
 pub returns-in_default : goal.returns-in_default

@@ -21,7 +21,7 @@ here : (c : In-Done) → Space c.raise_count-answer.new.buf c.answer-1.type_inv.
 unfolding body_given written_size
 here c =
     let add' : Adds c.args.buf.now c.raise_count-answer.new.buf true (body c) c.raise_count-answer.result 32 =
-adds c.raise_count-answer.ensures refl c.check-number.ensures refl in
+        adds c.raise_count-answer.ensures refl c.check-number.ensures refl in
     add'.space c.answer-1.type_inv.1
 
 pub returns-in_default : goal.returns-in_default

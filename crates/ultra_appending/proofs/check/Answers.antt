@@ -37,7 +37,7 @@ found : (c : Else-place-ne0)
     place_check (types_before b (stored_count b)) c.args.kind ≡ 0
 found c =
     let number' : (let b = c.args.buf.now in c.next_place_check-place.result ≡ place_check (types_before b (stored_count b)) c.args.kind) =
-c.next_place_check-place.ensures ∙ ap (λ (n : ℕ). place_check (types_before c.args.buf.now n) c.args.kind) c.load_u32-count.ensures in
+        c.next_place_check-place.ensures ∙ ap (λ (n : ℕ). place_check (types_before c.args.buf.now n) c.args.kind) c.load_u32-count.ensures in
     sym number' ∙ c.if-place-ne0.false
 
 -- the room that is left

@@ -20,16 +20,16 @@ accepts c = (_, sym c.used_length-answer.ensures ∙ c.answer-1.type_inv.1)
 map : (c : Else-start-eq0) → FirstOfType c.args.buf.now 3 c.first_of_type-start.result
 map c =
     let accepts' : Accepts c.args.buf.now =
-(_, sym c.used_length-answer.ensures ∙ c.answer-1.type_inv.1) in
+        (_, sym c.used_length-answer.ensures ∙ c.answer-1.type_inv.1) in
     first_of _ 3 _ accepts' c.first_of_type-start.ensures c.if-start-eq0.false
 
 entries : (c : After-entries_at-entries)
     → let b = c.args.buf.now in c.entries_at-entries.result ≡ entries_stored b (start b (map c.before).found.index)
 entries c =
     let map' : FirstOfType c.args.buf.now 3 c.first_of_type-start.result =
-let accepts' : Accepts c.args.buf.now =
-(_, sym c.used_length-answer.ensures ∙ c.answer-1.type_inv.1) in
-    first_of _ 3 _ accepts' c.first_of_type-start.ensures c.if-start-eq0.false in
+        let accepts' : Accepts c.args.buf.now =
+        (_, sym c.used_length-answer.ensures ∙ c.answer-1.type_inv.1) in
+        first_of _ 3 _ accepts' c.first_of_type-start.ensures c.if-start-eq0.false in
     c.entries_at-entries.ensures ∙ ap (entries_stored c.args.buf.now) map'.at
 
 pub returns-in_default : goal.returns-in_default

@@ -27,7 +27,7 @@ line_is : (c : In-5) → let a = c.args in
     strings (becomes a.buf.now a.at a.kind) ≡ closed (text_at a.buf.now (a.at + 8) (c.size-size.result - 8))
 line_is c =
     let here' : (let a = c.args in u32_at a.buf.now a.at ≡ a.kind) =
-sym c.kind.ensures ∙ c.if-kind.false in
+        sym c.kind.ensures ∙ c.if-kind.false in
     let a = c.args in
     let b = a.buf.now in
     ap strings (is_line b a.at a.kind here' c.in-5.keys2)

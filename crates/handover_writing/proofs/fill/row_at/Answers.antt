@@ -25,9 +25,9 @@ next_at : (c : After-with_meta) → let a = c.args in
     c.with_meta.result ≡ a.at + name_width a.records.now a.parts.now a.i + meta_width a.records.now a.parts.now a.i
 next_at c =
     let meta-at' : (let a = c.args in c.with_name-meta.result ≡ a.at + name_width a.records.now a.parts.now a.i) =
-let a = c.args in
-    let e = ap (λ (r : Record). width_if (names_name r.tag) (length_given a.parts.now (name_part a.i))) c.load-given.ensures in
-    omega (arith, c.with_name-meta.ensures, c.requires.i_bound) in
+        let a = c.args in
+        let e = ap (λ (r : Record). width_if (names_name r.tag) (length_given a.parts.now (name_part a.i))) c.load-given.ensures in
+        omega (arith, c.with_name-meta.ensures, c.requires.i_bound) in
     let a = c.args in
     let e = ap (λ (r : Record). width_if (names_meta r.tag) (length_given a.parts.now (meta_part a.i))) c.load-given.ensures in
     omega (arith, c.with_meta.ensures, meta-at', c.requires.i_bound)

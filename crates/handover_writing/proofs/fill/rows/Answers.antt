@@ -41,7 +41,7 @@ loop-i-preserved c =
     )
 
 pub returns : goal.returns
-returns c =
+returns c run =
     let l = c.loop-i in
     let q : l.i ≡ c.args.count = omega arith in
     rw q at (l.invariant.3 run)

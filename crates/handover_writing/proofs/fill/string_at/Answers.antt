@@ -31,7 +31,8 @@ here c =
 pub returns-then-not-named : goal.returns-then-not-named
 returns-then-not-named c =
     let a = c.args in
-    no_string a.named a.out.now (string_given a.parts.now a.run.now a.k) a.at (not-true a.named c.if-not-named.true-raw)
+    let n = no_string a.named a.out.now (string_given a.parts.now a.run.now a.k) a.at (not-true a.named c.if-not-named.true-raw) in
+    record { value = n.0; out_after = n.1 }
 
 pub string-requires : goal.string-requires
 string-requires c =

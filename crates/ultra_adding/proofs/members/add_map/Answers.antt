@@ -22,7 +22,7 @@ here : (c : In-Done)
     → Space c.raise_count-answer.new.buf c.answer-1.type_inv.0.0 (8 + length (bytes c.before.before.before.before.before) / 24 * 24)
 here c =
     let add' : Adds c.args.buf.now c.raise_count-answer.new.buf (map_formed (bytes c)) (map_of (bytes c)) c.raise_count-answer.result (8 + length (bytes c) / 24 * 24) =
-adds c.raise_count-answer.ensures refl c.bytes_check-number.ensures (omega (arith, map_given_size (bytes c))) in
+        adds c.raise_count-answer.ensures refl c.bytes_check-number.ensures (omega (arith, map_given_size (bytes c))) in
     add'.space c.answer-1.type_inv.1
 
 pub returns-in_default : goal.returns-in_default

@@ -24,7 +24,7 @@ here : (c : In-Done) → Space c.raise_count-answer.new.buf c.answer-1.type_inv.
 unfolding written_size size_suits values texts ranges ordered
 here c =
     let add' : Adds c.args.buf.now c.raise_count-answer.new.buf true (body c) c.raise_count-answer.result 96 =
-adds c.raise_count-answer.ensures refl (c.check-number.ensures ∙ judged _ (body c) refl refl refl refl refl) refl in
+        adds c.raise_count-answer.ensures refl (c.check-number.ensures ∙ judged _ (body c) refl refl refl refl refl) refl in
     add'.space c.answer-1.type_inv.1
 
 pub returns-in_default : goal.returns-in_default

@@ -25,13 +25,13 @@ here c =
 kind : (c : After-kind-kind) → c.kind-kind.result ≡ stored_type c.args.buf.now c.loop-i.i
 kind c =
     let here' : Loaded c.args.buf.now c.loop-i.i c.loop-i.at =
-loaded c.args.buf.now c.requires c.loop-i.i _ (omega (arith, c.count-count.ensures)) c.loop-i.invariant.0 in
+        loaded c.args.buf.now c.requires c.loop-i.i _ (omega (arith, c.count-count.ensures)) c.loop-i.invariant.0 in
     c.kind-kind.ensures ∙ here'.reached.type_is
 
 size : (c : After-size-size) → c.size-size.result ≡ stored_size c.args.buf.now c.loop-i.i
 size c =
     let here' : Loaded c.args.buf.now c.loop-i.i c.loop-i.at =
-loaded c.args.buf.now c.requires c.loop-i.i _ (omega (arith, c.count-count.ensures)) c.loop-i.invariant.0 in
+        loaded c.args.buf.now c.requires c.loop-i.i _ (omega (arith, c.count-count.ensures)) c.loop-i.invariant.0 in
     c.size-size.ensures ∙ here'.reached.size_is
 
 pub count-count-requires : goal.count-count-requires

@@ -25,7 +25,7 @@ suits : (c : After-load_u32-size)
     → size_suits c.load_u32-size.result (decoded c.args.buf.now c.answer-1.type_inv.0.0 c.load_u32-size.result c.load_u32-kind.result) ≡ true
 suits c =
     let here' : (let s = c.args in Loaded s.buf.now s.index c.answer-1.type_inv.0.0) =
-let k = said c in loaded _ k.accepts _ _ k.below k.is in
+        let k = said c in loaded _ k.accepts _ _ k.below k.is in
     rw (c.load_u32-size.ensures, c.load_u32-kind.ensures) here'.suits
 
 pub returns-in_default : goal.returns-in_default

@@ -19,7 +19,7 @@ accepts c = (_, sym c.used_length-answer.ensures ∙ c.in-Done.is)
 line : (c : Else-start-eq0) → FirstOfType c.args.buf.now 5 c.first_of_type-start.result
 line c =
     let accepts' : Accepts c.args.buf.now =
-(_, sym c.used_length-answer.ensures ∙ c.in-Done.is) in
+        (_, sym c.used_length-answer.ensures ∙ c.in-Done.is) in
     first_of _ 5 _ accepts' c.first_of_type-start.ensures c.if-start-eq0.false
 
 -- its body is that of a command line
@@ -28,9 +28,9 @@ body : (c : After-load_u32-size)
     decoded b c.first_of_type-start.result c.load_u32-size.result 5 ≡ (stored_attribute b (line c.before).found.index).body
 body c =
     let line' : FirstOfType c.args.buf.now 5 c.first_of_type-start.result =
-let accepts' : Accepts c.args.buf.now =
-(_, sym c.used_length-answer.ensures ∙ c.in-Done.is) in
-    first_of _ 5 _ accepts' c.first_of_type-start.ensures c.if-start-eq0.false in
+        let accepts' : Accepts c.args.buf.now =
+        (_, sym c.used_length-answer.ensures ∙ c.in-Done.is) in
+        first_of _ 5 _ accepts' c.first_of_type-start.ensures c.if-start-eq0.false in
     let l = line' in rw c.load_u32-size.ensures (rw l.type_is at l.here.body_is)
 
 pub returns-in_default : goal.returns-in_default

@@ -23,7 +23,7 @@ tested : (c : After-holds)
     → c.holds.result ≡ holding c.args.address (stored_attribute c.args.buf.now c.loop-i.i).body
 tested c =
     let here' : Loaded c.args.buf.now c.loop-i.i c.loop-i.at =
-loaded c.args.buf.now c.requires c.loop-i.i _ (omega (arith, c.load_u32-count.ensures)) c.loop-i.invariant.0 in
+        loaded c.args.buf.now c.requires c.loop-i.i _ (omega (arith, c.load_u32-count.ensures)) c.loop-i.invariant.0 in
     let s = c.args in
     let b = s.buf.now in
     c.holds.ensures

@@ -4,7 +4,7 @@ use Rattle.words.proofs.Comparisons.{failed, held}
 use Rattle.ultra_rules.proofs.kernel.both_fit.Goals as goal
 
 pub returns-then-not-fits : goal.returns-then-not-fits
-returns-then-not-fits c = simp (failed c.fits-2.ensures c.if-not-fits.true-raw)
+returns-then-not-fits c = simp (failed c.fits.ensures c.if-not-fits.true-raw)
 
 pub returns : goal.returns
-returns c = simp (held c.fits-2.ensures c.if-not-fits.false-raw) c.fits-2.ensures
+returns c = simp (held c.fits.ensures c.if-not-fits.false-raw) c.fits-2.ensures

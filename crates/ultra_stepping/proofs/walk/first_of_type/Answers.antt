@@ -20,7 +20,7 @@ here c = reached _ _ c.loop-i.i _ c.loop-i.invariant.0 (c.requires c.loop-i.i c.
 kind : (c : After-load_u32) → c.load_u32.result ≡ stored_type c.args.buf.now c.loop-i.i
 kind c =
     let here' : (let b = c.args.buf.now in Reached b (length b) c.loop-i.i c.loop-i.at) =
-reached _ _ c.loop-i.i _ c.loop-i.invariant.0 (c.requires c.loop-i.i c.loop-i-test.true) in
+        reached _ _ c.loop-i.i _ c.loop-i.invariant.0 (c.requires c.loop-i.i c.loop-i-test.true) in
     c.load_u32.ensures ∙ here'.type_is
 
 pub loop-i-init : goal.loop-i-init
