@@ -5,7 +5,7 @@
 -- proofs/PayloadDemand3.antt: `payload_demand_3`. A buffer is any list of numbers; that they are bytes (`Bytes`) is asked where it is needed.
 -- A reader has to believe this file.
 use Rattle.std.specs.Prelude.{ℕ, ◌≤◌, ◌<◌, ◌≡◌, ◌↔◌, List, [], length, get_or}
-use Rattle.std.specs.Borrow.{Bor, MutBor}
+use Rattle.std.specs.Borrow.{Bor}
 use Rattle.byte_layout.specs.Stored.{Bytes, bytes_at}
 use Rattle.lent_buffers.specs.declared.Part.{Part}
 use Rattle.lent_buffers.specs.LentParts.{PartOf, LiesAt}
@@ -44,11 +44,11 @@ pub record ReadingIs (b : List ℕ) (p : Payload) : Type 0 where
   pub metas : (i : ℕ) → i < count p → part_in b (record_answer b i).meta ≡ (entry_in p i).meta
   -- and whatever slice is handed back of a buffer s that has these bytes is memory of s, at that part, with the list's string; from the count
   -- on it has no byte
-  pub agent_slice : (lent s : MutBor (List ℕ)) → s.now ≡ b → AgentHandedBack lent s → IsPart lent s (agent_answered p).name p.agent_name
-  pub name_slices : (lent s : MutBor (List ℕ)) (i : ℕ) → s.now ≡ b → i < count p → NameHandedBack lent s i → IsPart lent s (record_answered p i).name (entry_in p i).name
-  pub meta_slices : (lent s : MutBor (List ℕ)) (i : ℕ) → s.now ≡ b → i < count p → MetaHandedBack lent s i → IsPart lent s (record_answered p i).meta (entry_in p i).meta
-  pub no_names : (lent s : MutBor (List ℕ)) (i : ℕ) → s.now ≡ b → count p ≤ i → NameHandedBack lent s i → lent.now ≡ []
-  pub no_metas : (lent s : MutBor (List ℕ)) (i : ℕ) → s.now ≡ b → count p ≤ i → MetaHandedBack lent s i → lent.now ≡ []
+  pub agent_slice : (lent s : Bor (List ℕ)) → s.now ≡ b → AgentHandedBack lent s → IsPart lent s (agent_answered p).name p.agent_name
+  pub name_slices : (lent s : Bor (List ℕ)) (i : ℕ) → s.now ≡ b → i < count p → NameHandedBack lent s i → IsPart lent s (record_answered p i).name (entry_in p i).name
+  pub meta_slices : (lent s : Bor (List ℕ)) (i : ℕ) → s.now ≡ b → i < count p → MetaHandedBack lent s i → IsPart lent s (record_answered p i).meta (entry_in p i).meta
+  pub no_names : (lent s : Bor (List ℕ)) (i : ℕ) → s.now ≡ b → count p ≤ i → NameHandedBack lent s i → lent.now ≡ []
+  pub no_metas : (lent s : Bor (List ℕ)) (i : ℕ) → s.now ≡ b → count p ≤ i → MetaHandedBack lent s i → lent.now ≡ []
 
 -- two buffers are read alike: every answer, and the bytes at every part that an answer names
 pub record SameReading (b d : List ℕ) : Type 0 where

@@ -2,7 +2,7 @@
 -- count on)". The offsets are those of the list; a string is answered as its part of the buffer, without its closing zero.
 -- A reader has to believe this file.
 use Rattle.std.specs.Prelude.{ℕ, ◌+◌, List, length, ltb}
-use Rattle.std.specs.Borrow.{Bor, MutBor}
+use Rattle.std.specs.Borrow.{Bor}
 use Rattle.lent_buffers.specs.LentParts.{part, no_part, PartOf}
 use Rattle.refusals.specs.Refusals.{COUNT}
 use Rattle.refusals.specs.Answers.{refused, and_then}
@@ -68,11 +68,11 @@ record_answer b i = with_record (payload_of b) i (index_answer b i)
 -- ---- the strings themselves: r is what is handed back of the lent buffer s, a part of it and no copy; an empty one where there is no string
 -- or the payload is refused
 -- the contract of `handover_questions::agent_name`
-abbrev pub AgentHandedBack : MutBor (List ℕ) → MutBor (List ℕ) → Type 0
+abbrev pub AgentHandedBack : Bor (List ℕ) → Bor (List ℕ) → Type 0
 AgentHandedBack r s = PartOf r s (agent_answer s.now).name
 
 -- that of `handover_questions::record_name`
-abbrev pub NameHandedBack : MutBor (List ℕ) → MutBor (List ℕ) → ℕ → Type 0
+abbrev pub NameHandedBack : Bor (List ℕ) → Bor (List ℕ) → ℕ → Type 0
 NameHandedBack r s i = PartOf r s (record_answer s.now i).name
 
 -- that of `handover_questions::record_meta`

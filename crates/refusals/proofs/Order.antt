@@ -8,7 +8,7 @@ use native.Mathlib.Omega.{arith}
 use lib.Dec.{leb}
 use borrow.Author.Tests.{leb-false, lt-leb}
 use Rattle.refusals.specs.Refusals.{unless}
-use Rattle.refusals.specs.Order.{First, NoneBreaks}
+use Rattle.refusals.specs.Order.{First}
 
 abbrev pub AllFine : List ℕ → (ℕ → Type 0) → Type 0
 AllFine [] breaks = Unit {0}

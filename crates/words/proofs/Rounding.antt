@@ -1,6 +1,6 @@
 -- A number rounded up is the least multiple that is not below it.
 use Prim.Native.Nat.{ℕ, suc, ◌+◌, ◌-◌, ◌*◌, ◌/◌, ◌≤◌}
-use mathlib.Core.Path.{◌≡◌, refl}
+use mathlib.Core.Path.{refl}
 use native.Mathlib.Omega.{arith}
 use native.Mathlib.Nat.{lt-div-mul-add, div-lt_iff_lt-mul, mul-le-mul_right, suc-mul}
 use Rattle.words.specs.Rounding.{rounded_up, RoundsUp}

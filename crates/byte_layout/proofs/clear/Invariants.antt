@@ -1,14 +1,10 @@
 -- `byte_layout::clear` meets its contract: after i turns the first i zeros are stored.
 use Prim.Native.Nat.{◌-◌, ◌≤◌}
-use mathlib.Core.Path.{◌≡◌, refl, sym}
+use mathlib.Core.Path.{◌≡◌}
 use mathlib.Core.List.{[]}
-use native.Mathlib.Omega.{arith}
-use borrow.Author.Rules.{rules}
-use lib.ListN.{length, length-set}
-use lib.Seq.{paste, paste-zero, take-length}
+use lib.ListN.{length}
+use lib.Seq.{paste}
 use Rattle.byte_layout.specs.Fields.{padded}
-use Rattle.byte_layout.proofs.FieldLaws.{length_padded}
-use Rattle.byte_layout.proofs.Written.{store_more, zero_padded}
 use Rattle.byte_layout.proofs.clear.Given as goal
 
 abbrev pub invariant-loop-i : goal.invariant-loop-i

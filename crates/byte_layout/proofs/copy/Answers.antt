@@ -1,10 +1,9 @@
 -- `byte_layout::copy` meets its contract: after i turns the front of `out` has the first i bytes.
-use Prim.Native.Nat.{◌-◌, ◌≤◌, ◌<◌}
+use Prim.Native.Nat.{◌<◌}
 use mathlib.Core.Path.{◌≡◌, refl}
-use mathlib.Core.List.{◌++◌}
 use native.Mathlib.Omega.{arith}
 use borrow.Author.Rules.{rules}
-use lib.ListN.{length, drop, length-set}
+use lib.ListN.{length, length-set}
 use Rattle.byte_layout.specs.Stored.{bytes_at}
 use Rattle.byte_layout.proofs.Copies.{front_more, length_stored, bytes_more}
 use Rattle.byte_layout.proofs.copy.Goals as goal

@@ -2,7 +2,6 @@
 use mathlib.Core.Path.{◌≡◌, ap, ◌∙◌}
 use mathlib.Core.List.{List}
 use Prim.Native.Nat.{ℕ}
-use borrow.Author.Rules.{rules}
 use lib.ListN.{length}
 use Rattle.byte_layout.specs.Stored.{bytes_at, text_at, over}
 use Rattle.byte_layout.proofs.Copies.{text_bytes}

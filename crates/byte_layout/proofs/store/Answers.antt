@@ -1,10 +1,9 @@
 -- `byte_layout::store` meets its contract: after i turns the first i bytes are stored.
-use Prim.Native.Nat.{◌-◌, ◌≤◌}
 use mathlib.Core.Path.{◌≡◌, refl}
 use native.Mathlib.Omega.{arith}
 use borrow.Author.Rules.{rules}
 use lib.ListN.{length, length-set}
-use lib.Seq.{paste, paste-zero, take-length}
+use lib.Seq.{paste-zero, take-length}
 use Rattle.byte_layout.proofs.Written.{store_more}
 use Rattle.byte_layout.proofs.store.Goals as goal
 

@@ -1,11 +1,8 @@
 -- `byte_layout::store` meets its contract: after i turns the first i bytes are stored.
 use Prim.Native.Nat.{◌-◌, ◌≤◌}
-use mathlib.Core.Path.{◌≡◌, refl}
-use native.Mathlib.Omega.{arith}
-use borrow.Author.Rules.{rules}
-use lib.ListN.{length, length-set}
-use lib.Seq.{paste, paste-zero, take-length}
-use Rattle.byte_layout.proofs.Written.{store_more}
+use mathlib.Core.Path.{◌≡◌}
+use lib.ListN.{length}
+use lib.Seq.{paste}
 use Rattle.byte_layout.proofs.store.Given as goal
 
 abbrev pub invariant-loop-i : goal.invariant-loop-i

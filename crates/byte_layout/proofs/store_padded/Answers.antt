@@ -3,7 +3,6 @@ use Prim.Native.Nat.{◌-◌}
 use native.Mathlib.Omega.{arith}
 use lib.ListN.{length}
 use Rattle.byte_layout.proofs.Written.{padded_stored}
-use borrow.Author.Rules.{rules}
 use Rattle.byte_layout.proofs.store_padded.Goals as goal
 
 pub returns : goal.returns

@@ -1,11 +1,9 @@
 -- `byte_layout::text_length` meets its contract. The invariant: the text is as long as what is passed and the text in the rest.
-use Prim.Native.Nat.{◌+◌, ◌-◌, ◌≤◌}
-use mathlib.Core.Path.{◌≡◌, ap}
+use mathlib.Core.Path.{ap}
 use native.Mathlib.Omega.{arith}
 use native.Mathlib.Nat.{sub-zero, add-zero}
 use borrow.Author.Rules.{rules}
 use lib.ListN.{length}
-use Rattle.byte_layout.specs.Stored.{text_at}
 use Rattle.byte_layout.proofs.Texts.{rest_stop, rest_next, rest_end}
 use Rattle.byte_layout.proofs.text_length.Goals as goal
 

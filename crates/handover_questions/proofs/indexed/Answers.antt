@@ -16,8 +16,8 @@ use Rattle.handover_questions.proofs.indexed.Goals as goal
 use Rattle.handover_questions.proofs.indexed.Goals.{In-Done}
 
 -- after the `let .. else`, reading has accepted the buffer
-done : (c : In-Done) → reading_of c.args.buf.now ≡ Done c.answer-1.type_inv.0.0
-done c = sym c.read-answer.ensures ∙ c.answer-1.type_inv.1
+done : (c : In-Done) → reading_of c.args.buf.now ≡ Done c.in-Done.size
+done c = sym c.read-answer.ensures ∙ c.in-Done.is
 
 pub returns-in_default : goal.returns-in_default
 returns-in_default c =

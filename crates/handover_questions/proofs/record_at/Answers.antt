@@ -19,11 +19,11 @@ use Rattle.handover_questions.proofs.record_at.Goals.{In-Done}
 
 -- after the `let .. else` there is such a record
 done : (c : In-Done) → let a = c.args in
-    index_answer a.buf.now a.index ≡ Done c.answer-1.type_inv.0.0
-done c = sym c.indexed-answer.ensures ∙ c.answer-1.type_inv.1
+    index_answer a.buf.now a.index ≡ Done c.in-Done.size
+done c = sym c.indexed-answer.ensures ∙ c.in-Done.is
 
 here : (c : In-Done) → let a = c.args in
-    Found a.buf.now a.index c.answer-1.type_inv.0.0
+    Found a.buf.now a.index c.in-Done.size
 here c = found _ _ _ (done c)
 
 pub returns-in_default : goal.returns-in_default

@@ -17,12 +17,12 @@ unfolding body_given
 add c = adds c.raise_count-answer.ensures refl c.check-number.ensures c.size-size.ensures
 
 here : (c : In-Done)
-    → Space c.raise_count-answer.new.buf c.answer-1.type_inv.0.0 c.size-size.result
+    → Space c.raise_count-answer.new.buf c.in-Done.used c.size-size.result
 unfolding body_given
 here c =
     let add' : Adds c.args.buf.now c.raise_count-answer.new.buf true (body c) c.raise_count-answer.result c.size-size.result =
         adds c.raise_count-answer.ensures refl c.check-number.ensures c.size-size.ensures in
-    add'.space c.answer-1.type_inv.1
+    add'.space c.in-Done.is
 
 pub returns-in_default : goal.returns-in_default
 returns-in_default c = (add (goal.at.returns-in_default c).After-raise_count-answer).refused c.in_default.is
@@ -45,4 +45,4 @@ overflow_add-result c = omega (arith, here (goal.at.overflow_add-result c).In-Do
 
 pub returns : goal.returns
 returns c =
-    (add (goal.at.returns c).After-raise_count-answer).written c.answer-1.type_inv.1 c.write.ensures
+    (add (goal.at.returns c).After-raise_count-answer).written c.in-Done.is c.write.ensures

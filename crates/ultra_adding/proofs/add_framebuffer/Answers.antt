@@ -17,12 +17,12 @@ add : (c : After-raise_count-answer) → Adds c.args.buf.now c.raise_count-answe
 unfolding body_given written_size
 add c = adds c.raise_count-answer.ensures refl c.check-number.ensures refl
 
-here : (c : In-Done) → Space c.raise_count-answer.new.buf c.answer-1.type_inv.0.0 32
+here : (c : In-Done) → Space c.raise_count-answer.new.buf c.in-Done.used 32
 unfolding body_given written_size
 here c =
     let add' : Adds c.args.buf.now c.raise_count-answer.new.buf true (body c) c.raise_count-answer.result 32 =
         adds c.raise_count-answer.ensures refl c.check-number.ensures refl in
-    add'.space c.answer-1.type_inv.1
+    add'.space c.in-Done.is
 
 pub returns-in_default : goal.returns-in_default
 returns-in_default c = (add (goal.at.returns-in_default c).After-raise_count-answer).refused c.in_default.is
@@ -41,4 +41,4 @@ overflow_add-result c = omega (arith, here (goal.at.overflow_add-result c).In-Do
 
 pub returns : goal.returns
 returns c =
-    (add (goal.at.returns c).After-raise_count-answer).written c.answer-1.type_inv.1 c.write.ensures
+    (add (goal.at.returns c).After-raise_count-answer).written c.in-Done.is c.write.ensures

@@ -16,12 +16,12 @@ unfolding body_given
 add c = adds c.raise_count-answer.ensures refl c.check-number.ensures c.size-size.ensures
 
 here : (c : In-Done)
-    → Space c.raise_count-answer.new.buf c.answer-1.type_inv.0.0 c.size-size.result
+    → Space c.raise_count-answer.new.buf c.in-Done.used c.size-size.result
 unfolding body_given
 here c =
     let add' : Adds c.args.buf.now c.raise_count-answer.new.buf (formed (map c)) (body_given (map c)) c.raise_count-answer.result c.size-size.result =
         adds c.raise_count-answer.ensures refl c.check-number.ensures c.size-size.ensures in
-    add'.space c.answer-1.type_inv.1
+    add'.space c.in-Done.is
 
 pub returns-in_default : goal.returns-in_default
 returns-in_default c = (add (goal.at.returns-in_default c).After-raise_count-answer).refused c.in_default.is
@@ -35,7 +35,7 @@ slice_bounds-write-start c = omega (arith, here (goal.at.slice_bounds-write-star
 pub write-requires : goal.write-requires
 write-requires c =
     let h = here (goal.at.write-requires c).In-Done in
-    let f = ((add (goal.at.write-requires c).After-raise_count-answer).holds c.answer-1.type_inv.1).0 in
+    let f = ((add (goal.at.write-requires c).After-raise_count-answer).holds c.in-Done.is).0 in
     record { numbers_in_bounds = omega arith; numbers_len = (eqb-true _ 0 f, omega arith) }
 
 pub overflow_cast-result : goal.overflow_cast-result
@@ -46,4 +46,4 @@ overflow_add-result c = omega (arith, here (goal.at.overflow_add-result c).In-Do
 
 pub returns : goal.returns
 returns c =
-    (add (goal.at.returns c).After-raise_count-answer).written c.answer-1.type_inv.1 c.write.ensures
+    (add (goal.at.returns c).After-raise_count-answer).written c.in-Done.is c.write.ensures

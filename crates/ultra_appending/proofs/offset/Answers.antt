@@ -8,8 +8,8 @@ use Rattle.ultra_appending.proofs.offset.Goals as goal
 use Rattle.ultra_appending.proofs.offset.Goals.{In-Done}
 
 -- reading accepted the buffer
-was : (c : In-Done) → used_length 0 c.args.buf.now ≡ Done c.answer-1.type_inv.0.0
-was c = sym c.used_length-answer.ensures ∙ c.answer-1.type_inv.1
+was : (c : In-Done) → used_length 0 c.args.buf.now ≡ Done c.in-Done.used
+was c = sym c.used_length-answer.ensures ∙ c.in-Done.is
 
 pub returns-in_default : goal.returns-in_default
 returns-in_default c = unread _ _ _ _ _ _ c.used_length-answer.ensures c.in_default.is

@@ -6,7 +6,7 @@ use borrow.Author.Rules.{rules}
 use Rattle.ultra_crossing.proofs.of_answer.Goals as goal
 
 pub returns-in-Done : goal.returns-in-Done
-returns-in-Done c = sym (zero-add _) ∙ sym (ap answer_crossed c.answer-1.type_inv.1)
+returns-in-Done c = sym (zero-add _) ∙ sym (ap answer_crossed c.in-Done.is)
 
 pub returns-in-Refused : goal.returns-in-Refused
-returns-in-Refused c = c.of_refusal.ensures ∙ sym (ap answer_crossed c.answer-in-Refused-1.type_inv.1)
+returns-in-Refused c = c.of_refusal.ensures ∙ sym (ap answer_crossed c.in-Refused.is)

@@ -6,7 +6,7 @@ use borrow.Author.Rules.{rules}
 use Rattle.ultra_crossing.proofs.of_reading.Goals as goal
 
 pub returns-in-Accepted : goal.returns-in-Accepted
-returns-in-Accepted c = sym (zero-add _) ∙ sym (ap reading_crossed c.reading-1.type_inv.1)
+returns-in-Accepted c = sym (zero-add _) ∙ sym (ap reading_crossed c.in-Accepted.is)
 
 pub returns-in-Refused : goal.returns-in-Refused
-returns-in-Refused c = c.of_refusal.ensures ∙ sym (ap reading_crossed c.reading-in-Refused-1.type_inv.1)
+returns-in-Refused c = c.of_refusal.ensures ∙ sym (ap reading_crossed c.in-Refused.is)

@@ -9,15 +9,15 @@ use Rattle.ultra_listing.proofs.write.Goals as goal
 
 pub accepted-requires : goal.accepted-requires
 accepted-requires c =
-    let a : Accepts c.args.buf.now = (c.answer-in-Done-1.type_inv.0.0, sym c.used_length-answer.ensures ∙ c.answer-in-Done-1.type_inv.1) in
+    let a : Accepts c.args.buf.now = (c.in-Done.used, sym c.used_length-answer.ensures ∙ c.in-Done.is) in
     record { accepts = a; used_value = used_is_law c.args.buf.now a }
 
 pub returns-in-Refused : goal.returns-in-Refused
 unfolding lines_of
 returns-in-Refused c =
-    rw (← c.used_length-answer.ensures, c.answer-1.type_inv.1) (c.refused.ensures ∙ lines_put _ _)
+    rw (← c.used_length-answer.ensures, c.in-Refused.is) (c.refused.ensures ∙ lines_put _ _)
 
 pub returns-in-Done : goal.returns-in-Done
 unfolding lines_of
 returns-in-Done c =
-    rw (← c.used_length-answer.ensures, c.answer-in-Done-1.type_inv.1) (c.accepted.ensures ∙ lines_put _ _)
+    rw (← c.used_length-answer.ensures, c.in-Done.is) (c.accepted.ensures ∙ lines_put _ _)

@@ -16,8 +16,8 @@ use Rattle.ultra_map.proofs.entries_check.Goals.{After-shared_slice_known-1}
 known : (c : After-shared_slice_known-1) → Bytes c.args.bytes.now
 known c = λ i. omega (arith, c.type_inv.bytes i)
 
-so-many : (at count : ℕ) → (count ≡ 0 → ⊥) → (at + 24 * (count - 1) + 24 - at) / 24 ≡ count
-so-many at count h = omega arith
+so_many : (at count : ℕ) → (count ≡ 0 → ⊥) → (at + 24 * (count - 1) + 24 - at) / 24 ≡ count
+so_many at count h = omega arith
 
 pub returns-then-count-eq0 : goal.returns-then-count-eq0
 returns-then-count-eq0 c = let a = c.args in no_entries (none_at _ _ _ c.if-count-eq0.true) ∙ number_of_law a.bytes.now a.at a.count
@@ -37,4 +37,4 @@ returns c =
     ∙ in_one_pass (entries_to b end a.at) c.first_unsettled-unsettled.ensures.1 c.first_unfit-unfit.ensures.1 (addresses b (known (goal.at.returns c).After-shared_slice_known-1) _ _) c.all_typed-typed.ensures
     (is_none b _ _ c.first_unfit-unfit.ensures.0) (is_pairless b _ _ c.first_unsettled-unsettled.ensures.0)
     ∙ number_of_law b a.at ((end - a.at) / 24)
-    ∙ ap (λ (m : ℕ). body_check (8 + 24 * m) (memory_map (entries_at b a.at m))) (so-many a.at a.count c.if-count-eq0.false)
+    ∙ ap (λ (m : ℕ). body_check (8 + 24 * m) (memory_map (entries_at b a.at m))) (so_many a.at a.count c.if-count-eq0.false)

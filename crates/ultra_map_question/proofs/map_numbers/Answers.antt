@@ -14,13 +14,13 @@ use Rattle.ultra_map_question.proofs.map_numbers.Goals.{After-entries_at-entries
 
 -- after the `let .. else`, reading has accepted the buffer
 abbrev accepts : (c : In-Done) → Accepts c.args.buf.now
-accepts c = (_, sym c.used_length-answer.ensures ∙ c.answer-1.type_inv.1)
+accepts c = (_, sym c.used_length-answer.ensures ∙ c.in-Done.is)
 
 -- there is a map, at `start`
 map : (c : Else-start-eq0) → FirstOfType c.args.buf.now 3 c.first_of_type-start.result
 map c =
     let accepts' : Accepts c.args.buf.now =
-        (_, sym c.used_length-answer.ensures ∙ c.answer-1.type_inv.1) in
+        (_, sym c.used_length-answer.ensures ∙ c.in-Done.is) in
     first_of _ 3 _ accepts' c.first_of_type-start.ensures c.if-start-eq0.false
 
 entries : (c : After-entries_at-entries)
@@ -28,7 +28,7 @@ entries : (c : After-entries_at-entries)
 entries c =
     let map' : FirstOfType c.args.buf.now 3 c.first_of_type-start.result =
         let accepts' : Accepts c.args.buf.now =
-        (_, sym c.used_length-answer.ensures ∙ c.answer-1.type_inv.1) in
+        (_, sym c.used_length-answer.ensures ∙ c.in-Done.is) in
         first_of _ 3 _ accepts' c.first_of_type-start.ensures c.if-start-eq0.false in
     c.entries_at-entries.ensures ∙ ap (entries_stored c.args.buf.now) map'.at
 

@@ -5,8 +5,8 @@ use Rattle.ultra_modules.proofs.add_next.Goals as goal
 
 pub returns-in-Done : goal.returns-in-Done
 returns-in-Done c =
-    next_added_law _ _ c.args.so_far _ _ _ c.answer-1.type_inv.1 c.add_module-answer.ensures
+    next_added_law _ _ c.args.so_far _ _ _ c.in-Done.is c.add_module-answer.ensures
 
 pub returns-in-Refused : goal.returns-in-Refused
 returns-in-Refused c =
-    next_added_law _ _ c.args.so_far _ _ _ c.answer-in-Refused-1.type_inv.1 c.add_module-answer.ensures
+    next_added_law _ _ c.args.so_far _ _ _ c.in-Refused.is c.add_module-answer.ensures

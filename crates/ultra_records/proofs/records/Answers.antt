@@ -12,8 +12,8 @@ pub read-records-requires : goal.read-records-requires
 read-records-requires c =
     let s = c.args in
     let p = c.requires in
-    let h = platform_least s.bytes.now s.at s.size s.kind c.if-kind-eq-PLATFORM.true p.1 in
-    (p.0, h)
+    let h = platform_least s.bytes.now s.at s.size s.kind c.if-kind-eq-PLATFORM.true p.kind_value in
+    (p.size_in_bounds, h)
 
 pub returns-then-kind-eq-PLATFORM : goal.returns-then-kind-eq-PLATFORM
 unfolding decoded records_of
@@ -25,8 +25,8 @@ pub read-records-requires-then-kind-eq-KERNEL : goal.read-records-requires-then-
 read-records-requires-then-kind-eq-KERNEL c =
     let s = c.args in
     let p = c.requires in
-    let h = kernel_least s.bytes.now s.at s.size s.kind c.if-kind-eq-KERNEL.true p.1 in
-    omega (arith, h, p.0)
+    let h = kernel_least s.bytes.now s.at s.size s.kind c.if-kind-eq-KERNEL.true p.kind_value in
+    omega (arith, h, p.size_in_bounds)
 
 pub returns-then-kind-eq-KERNEL : goal.returns-then-kind-eq-KERNEL
 unfolding decoded records_of
@@ -38,8 +38,8 @@ pub read-records-requires-then-kind-eq-MODULE : goal.read-records-requires-then-
 read-records-requires-then-kind-eq-MODULE c =
     let s = c.args in
     let p = c.requires in
-    let h = module_least s.bytes.now s.at s.size s.kind c.if-kind-eq-MODULE.true p.1 in
-    omega (arith, h, p.0)
+    let h = module_least s.bytes.now s.at s.size s.kind c.if-kind-eq-MODULE.true p.kind_value in
+    omega (arith, h, p.size_in_bounds)
 
 pub returns-then-kind-eq-MODULE : goal.returns-then-kind-eq-MODULE
 unfolding decoded records_of
@@ -51,8 +51,8 @@ pub read-records-requires-then-kind-eq-FRAMEBUFFER : goal.read-records-requires-
 read-records-requires-then-kind-eq-FRAMEBUFFER c =
     let s = c.args in
     let p = c.requires in
-    let h = framebuffer_least s.bytes.now s.at s.size s.kind c.if-kind-eq-FRAMEBUFFER.true p.1 in
-    omega (arith, h, p.0)
+    let h = framebuffer_least s.bytes.now s.at s.size s.kind c.if-kind-eq-FRAMEBUFFER.true p.kind_value in
+    omega (arith, h, p.size_in_bounds)
 
 pub returns-then-kind-eq-FRAMEBUFFER : goal.returns-then-kind-eq-FRAMEBUFFER
 unfolding decoded records_of

@@ -20,12 +20,12 @@ add : (c : After-raise_count-answer)
 unfolding written_size size_suits values texts ranges ordered
 add c = adds c.raise_count-answer.ensures refl (c.check-number.ensures ∙ judged _ (body c) refl refl refl refl refl) refl
 
-here : (c : In-Done) → Space c.raise_count-answer.new.buf c.answer-1.type_inv.0.0 336
+here : (c : In-Done) → Space c.raise_count-answer.new.buf c.in-Done.used 336
 unfolding written_size size_suits values texts ranges ordered
 here c =
     let add' : Adds c.args.buf.now c.raise_count-answer.new.buf (guids_formed c.args.disk.now c.args.partition.now) (body c.before.before.before.before.before.before.before) c.raise_count-answer.result 336 =
         adds c.raise_count-answer.ensures refl (c.check-number.ensures ∙ judged _ (body c) refl refl refl refl refl) refl in
-    add'.space c.answer-1.type_inv.1
+    add'.space c.in-Done.is
 
 pub returns-in_default : goal.returns-in_default
 returns-in_default c = (add (goal.at.returns-in_default c).After-raise_count-answer).refused c.in_default.is
@@ -39,7 +39,7 @@ slice_bounds-write-start c = omega (arith, here (goal.at.slice_bounds-write-star
 pub write-requires : goal.write-requires
 unfolding written_size texts
 write-requires c =
-    let d = (add (goal.at.write-requires c).After-raise_count-answer).holds c.answer-1.type_inv.1 in
+    let d = (add (goal.at.write-requires c).After-raise_count-answer).holds c.in-Done.is in
     let g = guids_wide c.args.disk.now c.args.partition.now d.0 in
     (omega (arith, here (goal.at.write-requires c).In-Done), g.0, g.1, omega (arith, path_short _ d.1.texts_hold))
 
@@ -48,4 +48,4 @@ overflow_add-result c = omega (arith, here (goal.at.overflow_add-result c).In-Do
 
 pub returns : goal.returns
 returns c =
-    (add (goal.at.returns c).After-raise_count-answer).written c.answer-1.type_inv.1 c.write.ensures
+    (add (goal.at.returns c).After-raise_count-answer).written c.in-Done.is c.write.ensures

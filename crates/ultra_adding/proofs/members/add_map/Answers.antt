@@ -19,11 +19,11 @@ add : (c : After-raise_count-answer) → Adds c.args.buf.now c.raise_count-answe
 add c = adds c.raise_count-answer.ensures refl c.bytes_check-number.ensures (omega (arith, map_given_size (bytes c)))
 
 here : (c : In-Done)
-    → Space c.raise_count-answer.new.buf c.answer-1.type_inv.0.0 (8 + length (bytes c.before.before.before.before.before) / 24 * 24)
+    → Space c.raise_count-answer.new.buf c.in-Done.used (8 + length (bytes c.before.before.before.before.before) / 24 * 24)
 here c =
     let add' : Adds c.args.buf.now c.raise_count-answer.new.buf (map_formed (bytes c)) (map_of (bytes c)) c.raise_count-answer.result (8 + length (bytes c) / 24 * 24) =
         adds c.raise_count-answer.ensures refl c.bytes_check-number.ensures (omega (arith, map_given_size (bytes c))) in
-    add'.space c.answer-1.type_inv.1
+    add'.space c.in-Done.is
 
 pub returns-in_default : goal.returns-in_default
 returns-in_default c = (add (goal.at.returns-in_default c).After-raise_count-answer).refused c.in_default.is
@@ -36,7 +36,7 @@ slice_bounds-write_bytes-start c = omega (arith, here (goal.at.slice_bounds-writ
 
 pub write_bytes-requires : goal.write_bytes-requires
 write_bytes-requires c =
-    let e : length (bytes (goal.at.write_bytes-requires c).After-raise_count-answer) % 24 ≡ 0 = eqb-true (length (bytes (goal.at.write_bytes-requires c).After-raise_count-answer) % 24) 0 ((add (goal.at.write_bytes-requires c).After-raise_count-answer).holds c.answer-1.type_inv.1).0 in
+    let e : length (bytes (goal.at.write_bytes-requires c).After-raise_count-answer) % 24 ≡ 0 = eqb-true (length (bytes (goal.at.write_bytes-requires c).After-raise_count-answer) % 24) 0 ((add (goal.at.write_bytes-requires c).After-raise_count-answer).holds c.in-Done.is).0 in
     let h = here (goal.at.write_bytes-requires c).In-Done in
     (omega (arith, map_given_size (bytes (goal.at.write_bytes-requires c).After-raise_count-answer)), e, omega (arith, map_given_size (bytes (goal.at.write_bytes-requires c).After-raise_count-answer)))
 
@@ -48,4 +48,4 @@ overflow_add-result c = omega (arith, here (goal.at.overflow_add-result c).In-Do
 
 pub returns : goal.returns
 returns c =
-    (add (goal.at.returns c).After-raise_count-answer).written c.answer-1.type_inv.1 c.write_bytes.ensures
+    (add (goal.at.returns c).After-raise_count-answer).written c.in-Done.is c.write_bytes.ensures

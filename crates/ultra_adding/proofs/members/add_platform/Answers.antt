@@ -19,12 +19,12 @@ add : (c : After-raise_count-answer) → Adds c.args.buf.now c.raise_count-answe
 unfolding written_size size_suits values texts ranges ordered
 add c = adds c.raise_count-answer.ensures refl (c.check-number.ensures ∙ judged _ (body c) refl refl refl refl refl) refl
 
-here : (c : In-Done) → Space c.raise_count-answer.new.buf c.answer-1.type_inv.0.0 88
+here : (c : In-Done) → Space c.raise_count-answer.new.buf c.in-Done.used 88
 unfolding written_size size_suits values texts ranges ordered
 here c =
     let add' : Adds c.args.buf.now c.raise_count-answer.new.buf c.args.complete (body c) c.raise_count-answer.result 88 =
         adds c.raise_count-answer.ensures refl (c.check-number.ensures ∙ judged _ (body c) refl refl refl refl refl) refl in
-    add'.space c.answer-1.type_inv.1
+    add'.space c.in-Done.is
 
 pub returns-in_default : goal.returns-in_default
 returns-in_default c = (add (goal.at.returns-in_default c).After-raise_count-answer).refused c.in_default.is
@@ -38,7 +38,7 @@ slice_bounds-write-start c = omega (arith, here (goal.at.slice_bounds-write-star
 pub write-requires : goal.write-requires
 unfolding written_size texts
 write-requires c =
-    let d = (add (goal.at.write-requires c).After-raise_count-answer).holds c.answer-1.type_inv.1 in
+    let d = (add (goal.at.write-requires c).After-raise_count-answer).holds c.in-Done.is in
     (omega (arith, here (goal.at.write-requires c).In-Done), omega (arith, name_short 32 _ d.1.texts_hold))
 
 pub overflow_add-result : goal.overflow_add-result
@@ -46,4 +46,4 @@ overflow_add-result c = omega (arith, here (goal.at.overflow_add-result c).In-Do
 
 pub returns : goal.returns
 returns c =
-    (add (goal.at.returns c).After-raise_count-answer).written c.answer-1.type_inv.1 c.write.ensures
+    (add (goal.at.returns c).After-raise_count-answer).written c.in-Done.is c.write.ensures

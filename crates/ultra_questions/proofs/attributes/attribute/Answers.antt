@@ -12,19 +12,19 @@ use Rattle.ultra_questions.proofs.attributes.attribute.Goals as goal
 use Rattle.ultra_questions.proofs.attributes.attribute.Goals.{After-load_u32-size, In-Done}
 
 -- after the `let .. else` there is such an attribute, at `start`
-said : (c : In-Done) → StartIs c.args.buf.now c.args.index c.answer-1.type_inv.0.0
+said : (c : In-Done) → StartIs c.args.buf.now c.args.index c.in-Done.start
 said c =
     let s = c.args in
-    start_said s.buf.now s.index _ (sym c.attribute_start-answer.ensures ∙ c.answer-1.type_inv.1)
+    start_said s.buf.now s.index _ (sym c.attribute_start-answer.ensures ∙ c.in-Done.is)
 
-here : (c : In-Done) → let s = c.args in Loaded s.buf.now s.index c.answer-1.type_inv.0.0
+here : (c : In-Done) → let s = c.args in Loaded s.buf.now s.index c.in-Done.start
 here c = let k = said c in loaded _ k.accepts _ _ k.below k.is
 
 -- its size suits its type
 suits : (c : After-load_u32-size)
-    → size_suits c.load_u32-size.result (decoded c.args.buf.now c.answer-1.type_inv.0.0 c.load_u32-size.result c.load_u32-kind.result) ≡ true
+    → size_suits c.load_u32-size.result (decoded c.args.buf.now c.in-Done.start c.load_u32-size.result c.load_u32-kind.result) ≡ true
 suits c =
-    let here' : (let s = c.args in Loaded s.buf.now s.index c.answer-1.type_inv.0.0) =
+    let here' : (let s = c.args in Loaded s.buf.now s.index c.in-Done.start) =
         let k = said c in loaded _ k.accepts _ _ k.below k.is in
     rw (c.load_u32-size.ensures, c.load_u32-kind.ensures) here'.suits
 
@@ -54,4 +54,4 @@ returns c =
     let s = c.args in
     let w = (here (goal.at.returns c).In-Done).reached in
     answer_loaded s.buf.now s.index _ _ _ _ _ (said (goal.at.returns c).In-Done).is (c.load_u32-kind.ensures ∙ w.type_is) (c.load_u32-size.ensures ∙ w.size_is) c.records-records.ensures c.of_body-part.ensures
-    ∙ answer_found s.buf.now s.index _ (sym c.attribute_start-answer.ensures ∙ c.answer-1.type_inv.1)
+    ∙ answer_found s.buf.now s.index _ (sym c.attribute_start-answer.ensures ∙ c.in-Done.is)

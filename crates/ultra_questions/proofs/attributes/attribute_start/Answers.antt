@@ -12,7 +12,7 @@ use Rattle.ultra_questions.proofs.attributes.attribute_start.Goals.{In-Done}
 
 -- after the `let .. else`, reading has accepted the buffer
 abbrev accepts : (c : In-Done) → Accepts c.args.buf.now
-accepts c = (_, sym c.used_length-answer.ensures ∙ c.answer-1.type_inv.1)
+accepts c = (_, sym c.used_length-answer.ensures ∙ c.in-Done.is)
 
 pub returns-in_default : goal.returns-in_default
 returns-in_default c =

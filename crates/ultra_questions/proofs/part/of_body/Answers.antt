@@ -10,8 +10,8 @@ use Rattle.ultra_questions.proofs.part.of_body.Goals as goal
 use Rattle.ultra_questions.proofs.part.of_body.Goals.{Then-kind-eq-COMMAND_LINE, Then-kind-eq-MEMORY_MAP}
 
 -- a map has 8 bytes
-map-least : (c : Then-kind-eq-MEMORY_MAP) → 8 ≤ c.args.size
-map-least c =
+map_least : (c : Then-kind-eq-MEMORY_MAP) → 8 ≤ c.args.size
+map_least c =
     omega (arith, map_size_law c.args.buf.now c.args.start c.args.size c.args.kind c.if-kind-eq-MEMORY_MAP.true c.requires.kind_value)
 
 -- a command line has 16 bytes
@@ -20,7 +20,7 @@ least c =
     line_least c.args.buf.now c.args.start c.args.size c.args.kind c.if-kind-eq-COMMAND_LINE.true c.requires.kind_value
 
 pub overflow_sub-result : goal.overflow_sub-result
-overflow_sub-result c = omega (arith, map-least (goal.at.overflow_sub-result c).Then-kind-eq-MEMORY_MAP)
+overflow_sub-result c = omega (arith, map_least (goal.at.overflow_sub-result c).Then-kind-eq-MEMORY_MAP)
 
 pub returns-then-kind-eq-MEMORY_MAP : goal.returns-then-kind-eq-MEMORY_MAP
 returns-then-kind-eq-MEMORY_MAP c =

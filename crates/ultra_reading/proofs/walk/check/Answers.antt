@@ -17,8 +17,8 @@ use Rattle.ultra_reading.proofs.walk.check.Goals.{After-place_check-place, Else-
 here : (c : Else-bounds-ne0) → BoundsHold c.args.buf.now c.args.room c.args.at
 here c = bounds_hold _ _ _ (sym c.check-bounds.ensures ∙ c.if-bounds-ne0.false)
 
-no-bounds : (c : Else-bounds-ne0) → bounds_check c.args.buf.now c.args.room c.args.at ≡ 0
-no-bounds c = sym c.check-bounds.ensures ∙ c.if-bounds-ne0.false
+no_bounds : (c : Else-bounds-ne0) → bounds_check c.args.buf.now c.args.room c.args.at ≡ 0
+no_bounds c = sym c.check-bounds.ensures ∙ c.if-bounds-ne0.false
 
 -- what the place's test answers, of the type that was loaded
 placing : (c : After-place_check-place)
@@ -37,7 +37,7 @@ place_check-place-requires c = record { in_bounds = search rules; le_kind = omeg
 pub returns-then-place-ne0 : goal.returns-then-place-ne0
 returns-then-place-ne0 c =
     let e = placing (goal.at.returns-then-place-ne0 c).After-place_check-place in
-    e ∙ stop_placing _ _ _ _ (no-bounds (goal.at.returns-then-place-ne0 c).Else-bounds-ne0) (λ z. c.if-place-ne0.true (e ∙ z))
+    e ∙ stop_placing _ _ _ _ (no_bounds (goal.at.returns-then-place-ne0 c).Else-bounds-ne0) (λ z. c.if-place-ne0.true (e ∙ z))
 
 pub load_u32-requires : goal.load_u32-requires
 load_u32-requires c = omega (arith, here (goal.at.load_u32-requires c).Else-bounds-ne0)
@@ -51,4 +51,4 @@ returns c =
     let o = c.args.at in
     c.body_check.ensures
     ∙ ap₂ (λ (s t : ℕ). body_check s (decoded b o s t)) c.load_u32.ensures c.load_u32-kind.ensures
-    ∙ only_body _ _ _ _ (no-bounds (goal.at.returns c).Else-bounds-ne0) (sym (placing (goal.at.returns c).After-place_check-place) ∙ c.if-place-ne0.false)
+    ∙ only_body _ _ _ _ (no_bounds (goal.at.returns c).Else-bounds-ne0) (sym (placing (goal.at.returns c).After-place_check-place) ∙ c.if-place-ne0.false)

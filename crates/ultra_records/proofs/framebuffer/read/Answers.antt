@@ -7,7 +7,7 @@ returns c =
     λ i. record {
       width = c.width-width.ensures i;
       height = c.height-height.ensures i;
-      (goal.at.returns c).After-pitch-pitch = c.pitch-pitch.ensures i;
+      pitch = c.pitch-pitch.ensures i;
       bpp = c.bpp-bpp.ensures i;
       format = c.format-format.ensures i;
       address = c.address-address.ensures i;

@@ -9,11 +9,11 @@ pub returns : goal.returns
 returns c =
     let s = c.args in
     λ i. record {
-      (goal.at.returns c).After-kind-kind = c.kind-kind.ensures i;
+      kind = c.kind-kind.ensures i;
       loader_major = c.loader_major-loader_major.ensures i;
       loader_minor = c.loader_minor-loader_minor.ensures i;
       name = (c.copy_text.ensures ∙ text_padded s.bytes.now (s.at + 16) 32) i;
-      (goal.at.returns c).After-rsdp-rsdp = c.rsdp-rsdp.ensures i;
+      rsdp = c.rsdp-rsdp.ensures i;
       higher_half_base = c.higher_half_base-higher_half_base.ensures i;
       depth = c.depth-depth.ensures i;
       dtb = c.dtb-dtb.ensures i;
