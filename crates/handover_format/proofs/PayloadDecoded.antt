@@ -2,7 +2,7 @@
 use Prim.Native.Nat.{ℕ, zero, suc, ◌+◌, ◌-◌, ◌<◌}
 use mathlib.Core.Path.{◌≡◌, refl, sym, ap, ◌∙◌, subst}
 use mathlib.Core.Bool.{Bool, true, false}
-use mathlib.Core.List.{List, [], ◌∷◌}
+use mathlib.Core.List.{List, []}
 use native.Mathlib.Omega.{arith}
 use native.Mathlib.Nat.{not-suc-le-zero, le_of_suc-le-suc, add-zero, zero-add}
 use lib.ListN.{length, get_or}
@@ -12,7 +12,7 @@ use Rattle.handover_format.specs.declared.records.Record.{Record}
 use Rattle.handover_format.specs.Payloads.{names_name, names_meta, Entry, Payload, count, no_entry, entry_in, words_in, record_start, table, table_length, Named, Named.agent, Named.name, Named.meta}
 use Rattle.handover_format.specs.PayloadLayouts.{magic, Opens}
 use Rattle.handover_format.specs.PayloadRules.{Meets}
-use Rattle.handover_format.specs.PayloadDecoding.{pick, stored_agent, stored_size, stored_count, stored_record, string_at, stored_table, stored_string, stored_entry, entries_from, payload_of}
+use Rattle.handover_format.specs.PayloadDecoding.{pick, stored_agent, stored_size, stored_count, string_at, stored_table, stored_string, stored_entry, entries_from, payload_of}
 use Rattle.handover_format.proofs.PayloadRows.{Says, opens_says}
 
 -- ---- the entries that are decoded

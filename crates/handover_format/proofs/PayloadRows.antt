@@ -1,7 +1,7 @@
 -- Runs and decoding agree: what a payload's runs, lying in a buffer, say of what is stored there, and back.
 use Prim.Native.Nat.{ℕ, zero, suc, ◌+◌, ◌-◌, ◌*◌, ◌≤◌, ◌<◌}
-use mathlib.Core.Path.{◌≡◌, refl, sym, ap, ◌∙◌}
-use mathlib.Core.List.{List, [], ◌∷◌, ◌++◌}
+use mathlib.Core.Path.{◌≡◌, refl, sym, ap}
+use mathlib.Core.List.{List, [], ◌∷◌}
 use native.Mathlib.Omega.{arith}
 use native.Mathlib.Nat.{not-suc-le-zero, le_of_suc-le-suc, add-zero}
 use lib.ListN.{length, get_or}
@@ -9,7 +9,7 @@ use Rattle.words.specs.Words.{u32_at}
 use Rattle.byte_layout.specs.Fields.{Field, Field.text, cells, width, Fits, FieldFits}
 use Rattle.byte_layout.specs.Stored.{Bytes, text_at}
 use Rattle.byte_layout.proofs.Cells.{along, index}
-use Rattle.byte_layout.proofs.FieldLaws.{Holds, shift, holds_front, holds_append, holds_fit, from_cells, to_cells, length_cells}
+use Rattle.byte_layout.proofs.FieldLaws.{Holds, shift, holds_front, holds_append, holds_fit, from_cells, to_cells}
 use Rattle.handover_format.specs.declared.records.Record.{Record}
 use Rattle.handover_format.specs.Payloads.{Entry, Payload, count, no_entry, words_in, table, table_length, Named}
 use Rattle.handover_format.specs.PayloadLayouts.{magic, record_fields, entries_fields, front_fields, string_fields, RowOf, RowOf.front, RowOf.string, Opens}

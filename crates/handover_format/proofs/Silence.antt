@@ -1,21 +1,21 @@
 -- A byte is silent just where it is after the records and outside every named string and its closing zero.
 use Prim.Native.Nat.{ℕ, zero, suc, ◌+◌, ◌-◌, ◌≤◌, ◌<◌}
-use mathlib.Core.Path.{◌≡◌, refl, sym, ◌∙◌}
-use mathlib.Core.Logic.{◌↔◌, ◌⊎◌, inl, inr, ⊎_elim}
+use mathlib.Core.Path.{◌≡◌, refl, sym}
+use mathlib.Core.Logic.{◌⊎◌, inl, inr, ⊎_elim}
 use mathlib.Core.Bool.{Bool, true, false}
-use mathlib.Core.List.{List, [], ◌∷◌, ◌++◌, append-nil}
+use mathlib.Core.List.{List, [], ◌∷◌, ◌++◌}
 use native.Mathlib.Omega.{arith}
 use native.Mathlib.Nat.{not-suc-le-zero, le_of_suc-le-suc, zero-add}
-use lib.ListN.{length, get_or}
+use lib.ListN.{length}
 use lib.Dec.{leb, ltb}
 use borrow.Author.Tests.{leb-true, leb-false, ltb-true, ltb-false}
 use Rattle.words.specs.Words.{little_endian}
-use Rattle.byte_layout.specs.Fields.{Cell, Cell.byte, Cell.silent, Field, Field.number, bytes, silence, text_cells, cells, SilentAt}
+use Rattle.byte_layout.specs.Fields.{Cell, Field, Field.number, bytes, cells, SilentAt}
 use Rattle.byte_layout.proofs.Cells.{not_silent}
 use Rattle.byte_layout.proofs.FieldLaws.{length_cells}
 use Rattle.byte_layout.proofs.PlacedLaws.{text_said_at, text_silent_at}
 use Rattle.handover_format.specs.Payloads.{Entry, Payload, count, table, table_length, Named}
-use Rattle.handover_format.specs.PayloadLayouts.{magic, entries_fields, front_fields, string_fields, RowOf, RowOf.front, RowOf.string, Silent}
+use Rattle.handover_format.specs.PayloadLayouts.{magic, entries_fields, front_fields, RowOf.front, RowOf.string, Silent}
 use Rattle.handover_format.specs.PayloadRules.{Meets}
 use Rattle.handover_format.specs.Silence.{Outside, SilentPlainly}
 use Rattle.handover_format.proofs.PayloadRows.{width_front}

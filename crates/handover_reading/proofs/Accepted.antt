@@ -1,11 +1,10 @@
 -- What it means that reading answers a used length: every test passes.
-use Prim.Native.Nat.{ℕ, zero, suc, ◌+◌, ◌-◌, ◌<◌}
-use mathlib.Core.Path.{◌≡◌, refl, sym, ap, ◌∙◌}
+use Prim.Native.Nat.{ℕ, ◌-◌, ◌<◌}
+use mathlib.Core.Path.{◌≡◌, sym, ap, ◌∙◌}
 use mathlib.Core.Bool.{true}
 use mathlib.Core.List.{List}
 use native.Mathlib.Nat.{zero-add}
 use Rattle.refusals.specs.Refusals.{STRING, unless}
-use Rattle.handover_format.specs.Payloads.{record_start}
 use Rattle.handover_format.specs.PayloadDecoding.{stored_agent, stored_size, stored_count, stored_table}
 use Rattle.refusals.specs.declared.Answer.TheVariants.{Done}
 use Rattle.refusals.proofs.Chains.{passed, not_refused, both_done}

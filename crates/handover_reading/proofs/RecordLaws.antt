@@ -1,12 +1,11 @@
 -- Laws of the tests on a record's words and on its strings: each answer from the facts that lead to it, and what 0 says.
-use Prim.Native.Nat.{ℕ, ◌+◌, ◌-◌, ◌≤◌, ◌<◌}
+use Prim.Native.Nat.{ℕ, ◌+◌, ◌-◌, ◌≤◌}
 use mathlib.Core.Path.{◌≡◌, refl, sym, ap, ◌∙◌}
 use mathlib.Core.Bool.{Bool, true, false}
 use mathlib.Core.List.{List}
 use native.Mathlib.Omega.{arith}
 use lib.ListN.{length}
-use lib.Dec.{leb, ltb}
-use borrow.Author.Tests.{leb-true, leb-false, le-leb, lt-leb}
+use lib.Dec.{ltb}
 use Rattle.byte_layout.specs.Stored.{text_at}
 use Rattle.byte_layout.proofs.Texts.{text_empty}
 use Rattle.handover_format.specs.Payloads.{names_name, names_meta}

@@ -1,13 +1,13 @@
 -- What was spelled is read back.
 use Prim.Native.Nat.{ℕ, zero, suc, ◌+◌, ◌-◌, ◌*◌, ◌/◌, ◌%◌, ◌^◌, ◌≤◌, ◌<◌}
 use Prim.Native.Char.{code}
-use mathlib.Core.Path.{◌≡◌, refl, sym, ap, ◌∙◌}
+use mathlib.Core.Path.{◌≡◌, refl, ap, ◌∙◌}
 use mathlib.Core.Bool.{Bool, true, false, ◌||◌}
 use mathlib.Core.List.{List, [], ◌∷◌, ◌++◌, append_assoc, append-nil}
 use native.Mathlib.Omega.{arith}
 use native.Mathlib.Nat.{div-lt_iff_lt-mul, pow-suc}
 use lib.Dec.{leb, ltb, eqb}
-use borrow.Author.Tests.{ltb-true, ltb-false, lt-ltb, le-ltb, leb-false, eqb-false, eq-eqb, ne_eqb}
+use borrow.Author.Tests.{ltb-true, ltb-false, lt-ltb, le-ltb, leb-false, eq-eqb, ne_eqb}
 use Rattle.key_value_text.specs.Lines.{Value, Value.numbers, Value.text, Value.hex, Value.absent, Line, line, value_bytes, line_bytes}
 use Rattle.text_output.specs.Spelling.{ascii, each, digits, decimal, after, joined, hex_digit, hex_pair, is_escaped, spelled}
 use Rattle.key_value_text.specs.ReadingBack.{shifted, number_from, number_in, numbers_from, numbers_in, hex_value, bytes_in, text_from, text_in, before, cut, All, Short, Byte, Differs, Separated, ReadsBack, largest, EndsAtNewline, ReadsBackWidest}

@@ -2,7 +2,7 @@
 -- bytes are silent, what is plain and what a writer writes all come from this one definition. Reading decodes by the table's offsets
 -- (Decoding); `says_decoded`, in proofs/Decoded.antt, proves that the two agree.
 -- A reader has to believe this file.
-use Rattle.std.specs.Prelude.{ℕ, ◌+◌, ◌-◌, List, [], ◌∷◌, ◌++◌}
+use Rattle.std.specs.Prelude.{ℕ, ◌-◌, List, [], ◌∷◌, ◌++◌}
 use Rattle.byte_layout.specs.Fields.{Field, cells, filled, SilentAt}
 use Rattle.byte_layout.specs.Fields as fields
 use Rattle.byte_layout.specs.Fields.{Field.number, Field.raw, Field.text, Field.padding}

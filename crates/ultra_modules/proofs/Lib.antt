@@ -1,5 +1,3 @@
-pub mod Again
 pub mod OneByOne
 pub mod StoredBytes
 pub mod Turns
-pub mod While

@@ -9,43 +9,59 @@ use Rattle.export_list.specs.ExportList.{gathered}
 use Rattle.export_records.specs.Rows.{RowsFit}
 use Rattle.export_records.proofs.RowLaws.{rows_front, rows_rest, rows_step}
 use Rattle.export_records.proofs.between.Goals as goal
-use Rattle.export_records.proofs.between.Goals.{After-of_type-files, After-of_type-ranges, Start}
+use Rattle.export_records.proofs.between.Goals.{After-of_type-files, After-of_type-ranges}
 
 -- those of a type, and what comes after the first one, two and three types
-abbrev these : Start → ℕ → List Entry
-these s k = gathered k (context_of c.args.buf.now).attributes
+abbrev these : List ℕ → ℕ → List Entry
+these b k = gathered k (context_of b).attributes
 
-abbrev after_ranges : Start → List Entry
-after_ranges s = these c 4 ++ (these c 5 ++ these c 1)
+abbrev after_ranges : List ℕ → List Entry
+after_ranges b = these b 4 ++ (these b 5 ++ these b 1)
 
-abbrev after_files : Start → List Entry
-after_files s = these c 5 ++ these c 1
+abbrev after_files : List ℕ → List Entry
+after_files b = these b 5 ++ these b 1
 
-rest : (c : After-of_type-ranges) → RowsFit c.of_type-ranges.new.out c.of_type-ranges.result (after_ranges c)
+-- what is left fits
+rest : (c : After-of_type-ranges) → RowsFit c.of_type-ranges.new.out c.of_type-ranges.result (after_ranges c.args.buf.now)
 rest c =
-    rows_rest c.args.out.now c.args.m (these c.before.before.before.before 3) (after_ranges c.before.before.before.before) (these c.before.before.before.before 3 ++ after_ranges c.before.before.before.before) refl c.requires.rows_fit _ _ c.of_type-ranges.ensures c.of_type-ranges.auto.out
+    let b = c.args.buf.now in
+    rows_rest c.args.out.now c.args.m (these b 3) (after_ranges b) (these b 3 ++ after_ranges b) refl c.requires.rows_fit _ _ c.of_type-ranges.ensures c.of_type-ranges.auto.out
 
-rest2 : (c : After-of_type-files) → RowsFit c.of_type-files.new.out c.of_type-files.result (after_files (start_of c))
+rest2 : (c : After-of_type-files) → RowsFit c.of_type-files.new.out c.of_type-files.result (after_files c.args.buf.now)
 rest2 c =
-    let rest' : RowsFit c.of_type-ranges.new.out c.of_type-ranges.result (after_ranges c) =
-        rows_rest c.args.out.now c.args.m (these c.before.before.before.before 3) (after_ranges c.before.before.before.before) (these c.before.before.before.before 3 ++ after_ranges c.before.before.before.before) refl c.requires.rows_fit _ _ c.of_type-ranges.ensures c.of_type-ranges.auto.out in
-    rows_rest c.of_type-ranges.last.1.1.0 c.of_type-ranges.result (these c.before.before.before.before.before.before.before.before 4) (after_files c.before.before.before.before.before.before.before.before) (after_ranges c.before.before.before.before.before.before.before.before) refl rest' _ _ c.of_type-files.ensures c.of_type-files.auto.out
+    let b = c.args.buf.now in
+    let r = rows_rest c.args.out.now c.args.m (these b 3) (after_ranges b) (these b 3 ++ after_ranges b) refl c.requires.rows_fit _ _ c.of_type-ranges.ensures c.of_type-ranges.auto.out in
+    rows_rest c.of_type-ranges.new.out c.of_type-ranges.result (these b 4) (after_files b) (after_ranges b) refl r _ _ c.of_type-files.ensures c.of_type-files.auto.out
 
 pub of_type-ranges-requires : goal.of_type-ranges-requires
-of_type-ranges-requires c = record { accepts = c.requires.accepts; rows_fit = rows_front c.args.out.now c.args.m (these (goal.at.of_type-ranges-requires c).Start 3) (after_ranges (goal.at.of_type-ranges-requires c).Start) (these (goal.at.of_type-ranges-requires c).Start 3 ++ after_ranges (goal.at.of_type-ranges-requires c).Start) refl c.requires.rows_fit }
+of_type-ranges-requires c =
+    let b = c.args.buf.now in
+    record { accepts = c.requires.accepts; rows_fit = rows_front c.args.out.now c.args.m (these b 3) (after_ranges b) (these b 3 ++ after_ranges b) refl c.requires.rows_fit }
 
 pub of_type-files-requires : goal.of_type-files-requires
-of_type-files-requires c = record { accepts = c.requires.accepts; rows_fit = rows_front c.of_type-ranges.new.out c.of_type-ranges.result (these (goal.at.of_type-files-requires c).Start 4) (after_files (goal.at.of_type-files-requires c).Start) (after_ranges (goal.at.of_type-files-requires c).Start) refl (rest (goal.at.of_type-files-requires c).After-of_type-ranges) }
+of_type-files-requires c =
+    let b = c.args.buf.now in
+    let r = rest (goal.at.of_type-files-requires c).After-of_type-ranges in
+    record { accepts = c.requires.accepts; rows_fit = rows_front c.of_type-ranges.new.out c.of_type-ranges.result (these b 4) (after_files b) (after_ranges b) refl r }
 
 pub of_type-line-requires : goal.of_type-line-requires
-of_type-line-requires c = record { accepts = c.requires.accepts; rows_fit = rows_front c.of_type-files.new.out c.of_type-files.result (these (goal.at.of_type-line-requires c).Start 5) (these (goal.at.of_type-line-requires c).Start 1) (after_files (goal.at.of_type-line-requires c).Start) refl (rest2 (goal.at.of_type-line-requires c).After-of_type-files) }
+of_type-line-requires c =
+    let b = c.args.buf.now in
+    let f = rest2 (goal.at.of_type-line-requires c).After-of_type-files in
+    record { accepts = c.requires.accepts; rows_fit = rows_front c.of_type-files.new.out c.of_type-files.result (these b 5) (these b 1) (after_files b) refl f }
 
 pub of_type-requires : goal.of_type-requires
-of_type-requires c = record { accepts = c.requires.accepts; rows_fit = rows_rest c.of_type-files.new.out c.of_type-files.result (these (goal.at.of_type-requires c).Start 5) (these (goal.at.of_type-requires c).Start 1) (after_files (goal.at.of_type-requires c).Start) refl (rest2 (goal.at.of_type-requires c).After-of_type-files) _ _ c.of_type-line.ensures c.of_type-line.auto.out }
+of_type-requires c =
+    let b = c.args.buf.now in
+    let f = rest2 (goal.at.of_type-requires c).After-of_type-files in
+    record { accepts = c.requires.accepts; rows_fit = rows_rest c.of_type-files.new.out c.of_type-files.result (these b 5) (these b 1) (after_files b) refl f _ _ c.of_type-line.ensures c.of_type-line.auto.out }
 
 pub returns : goal.returns
 returns c =
+    let b = c.args.buf.now in
+    let r = rest (goal.at.returns c).After-of_type-ranges in
+    let f = rest2 (goal.at.returns c).After-of_type-files in
     c.of_type.ensures
-    ∙ rows_step c.of_type-files.new.out c.of_type-files.result (these (goal.at.returns c).Start 5) (these (goal.at.returns c).Start 1) (after_files (goal.at.returns c).Start) refl (rest2 (goal.at.returns c).After-of_type-files) _ _ c.of_type-line.ensures c.of_type-line.auto.out
-    ∙ rows_step c.of_type-ranges.last.1.1.0 c.of_type-ranges.result (these (goal.at.returns c).Start 4) (after_files (goal.at.returns c).Start) (after_ranges (goal.at.returns c).Start) refl (rest (goal.at.returns c).After-of_type-ranges) _ _ c.of_type-files.ensures c.of_type-files.auto.out
-    ∙ rows_step c.args.out.now c.args.m (these (goal.at.returns c).Start 3) (after_ranges (goal.at.returns c).Start) (these (goal.at.returns c).Start 3 ++ after_ranges (goal.at.returns c).Start) refl c.requires.rows_fit _ _ c.of_type-ranges.ensures c.of_type-ranges.kept.1.1.0
+    ∙ rows_step c.of_type-files.new.out c.of_type-files.result (these b 5) (these b 1) (after_files b) refl f _ _ c.of_type-line.ensures c.of_type-line.auto.out
+    ∙ rows_step c.of_type-ranges.new.out c.of_type-ranges.result (these b 4) (after_files b) (after_ranges b) refl r _ _ c.of_type-files.ensures c.of_type-files.auto.out
+    ∙ rows_step c.args.out.now c.args.m (these b 3) (after_ranges b) (these b 3 ++ after_ranges b) refl c.requires.rows_fit _ _ c.of_type-ranges.ensures c.of_type-ranges.auto.out

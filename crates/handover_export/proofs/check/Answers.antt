@@ -10,7 +10,7 @@ use Rattle.handover_export.proofs.check.Goals as goal
 use Rattle.handover_export.proofs.check.Goals.{Else-not-fits, Else-not-fits-2}
 
 loads : (c : Else-not-fits) → range_fits c.args.load c.args.size ≡ true
-loads c = sym c.fits-2.ensures ∙ not-false _ c.if-not-fits.false-raw
+loads c = sym c.fits.ensures ∙ not-false _ c.if-not-fits.false-raw
 
 points : (c : Else-not-fits-2) → range_fits c.args.rsdp 20 ≡ true
 points c = sym c.fits-2.ensures ∙ not-false _ c.if-not-fits-2.false-raw
@@ -19,7 +19,7 @@ pub returns-then-count-gt-MOST_RECORDS : goal.returns-then-count-gt-MOST_RECORDS
 returns-then-count-gt-MOST_RECORDS c = gives_count _ _ _ _ _ (omega arith)
 
 pub returns-then-not-fits : goal.returns-then-not-fits
-returns-then-not-fits c = gives_load _ _ _ _ _ (omega arith) (sym c.fits-2.ensures ∙ not-true _ c.if-not-fits.true-raw)
+returns-then-not-fits c = gives_load _ _ _ _ _ (omega arith) (sym c.fits.ensures ∙ not-true _ c.if-not-fits.true-raw)
 
 pub returns-then-not-fits-2 : goal.returns-then-not-fits-2
 returns-then-not-fits-2 c = gives_rsdp _ _ _ _ _ (omega arith) (loads (goal.at.returns-then-not-fits-2 c).Else-not-fits) (sym c.fits-2.ensures ∙ not-true _ c.if-not-fits-2.true-raw)

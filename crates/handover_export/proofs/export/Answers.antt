@@ -20,23 +20,21 @@ use Rattle.handover_export.proofs.export.Goals.{After-check-number, After-payloa
 abbrev accepts : (c : In-Done) → Accepts c.args.buf.now
 accepts c = (_, sym c.used_length-answer.ensures ∙ c.in-Done.is)
 
-counts : (c : After-payload-payload) → c.payload-payload.result.count ≡ length (entries_of 0 0 (context_of (start_of c).args.buf.now).attributes)
-counts c = count_is (agent_of (context_of (start_of c).args.buf.now)) _ _ c.payload-payload.ensures.0
+counts : (c : After-payload-payload) → c.payload-payload.result.count ≡ length (entries_of 0 0 (context_of c.args.buf.now).attributes)
+counts c = count_is (agent_of (context_of c.args.buf.now)) _ _ c.payload-payload.ensures.0
 
-sizes : (c : After-payload-payload) → 16 + 32 * c.payload-payload.result.count + c.payload-payload.result.width ≡ export_size (context_of (start_of c).args.buf.now)
-sizes c = size_is (agent_of (context_of (start_of c).args.buf.now)) _ _ c.payload-payload.ensures.0
+sizes : (c : After-payload-payload) → 16 + 32 * c.payload-payload.result.count + c.payload-payload.result.width ≡ export_size (context_of c.args.buf.now)
+sizes c = size_is (agent_of (context_of c.args.buf.now)) _ _ c.payload-payload.ensures.0
 
-said : (c : After-check-number) → let a = (start_of (told c)).args in c.check-number.result ≡ export_check (context_of a.buf.now) a.load (room_of a.out.now)
+said : (c : After-check-number) → let a = c.args in c.check-number.result ≡ export_check (context_of a.buf.now) a.load (room_of a.out.now)
 said c =
-    let accepts' : Accepts c.args.buf.now =
-        (_, sym c.used_length-answer.ensures ∙ c.in-Done.is) in
-    let counts' : c.payload-payload.result.count ≡ length (entries_of 0 0 (context_of (start_of c).args.buf.now).attributes) =
-        count_is (agent_of (context_of (start_of c).args.buf.now)) _ _ c.payload-payload.ensures.0 in
-    let sizes' : 16 + 32 * c.payload-payload.result.count + c.payload-payload.result.width ≡ export_size (context_of (start_of c).args.buf.now) =
-        size_is (agent_of (context_of (start_of c).args.buf.now)) _ _ c.payload-payload.ensures.0 in
-    let a = (start_of c.before.before.before.before.before).args in
-    let r = c.rsdp-rsdp.ensures ∙ rsdp_is a.buf.now accepts' in
-    c.check-number.ensures ∙ (λ j. tests_of (counts' j) (sizes' j) a.load (r j) (c.room-room.ensures j))
+    let a = c.args in
+    let x = context_of a.buf.now in
+    let y : Accepts a.buf.now = (_, sym c.used_length-answer.ensures ∙ c.in-Done.is) in
+    let n = count_is (agent_of x) _ _ c.payload-payload.ensures.0 in
+    let z = size_is (agent_of x) _ _ c.payload-payload.ensures.0 in
+    let r = c.rsdp-rsdp.ensures ∙ rsdp_is a.buf.now y in
+    c.check-number.ensures ∙ (λ j. tests_of (n j) (z j) a.load (r j) (c.room-room.ensures j))
 
 -- where none is given, the payload fits
 fits : (c : Else-number-ne0) → (c.payload-payload.result.count ≤ 1024) × (16 + 32 * c.payload-payload.result.count + c.payload-payload.result.width ≤ c.room-room.result)
@@ -67,11 +65,11 @@ overflow_cast-size c = omega (arith, (fits (goal.at.overflow_cast-size c).Else-n
 
 pub fill-requires : goal.fill-requires
 fill-requires c =
-    let a = (start_of (goal.at.fill-requires c).After-payload-payload).args in
+    let a = c.args in
     let x = context_of a.buf.now in
     let f = (fits (goal.at.fill-requires c).Else-number-ne0).1 in
     let r = c.room-room.ensures in
-    record { accepts = accepts (goal.at.fill-requires c).After-payload-payload; count_value = (counts (goal.at.fill-requires c).After-payload-payload, sizes (goal.at.fill-requires c).After-payload-payload ∙ sym (size_same (agent_of x) a.load _ x.attributes), omega (arith, f, r), omega (arith, f, r)) }
+    record { accepts = accepts (goal.at.fill-requires c).In-Done; count_value = (counts (goal.at.fill-requires c).After-payload-payload, sizes (goal.at.fill-requires c).After-payload-payload ∙ sym (size_same (agent_of x) a.load _ x.attributes), omega (arith, f, r), omega (arith, f, r)) }
 
 pub overflow_cast-result : goal.overflow_cast-result
 overflow_cast-result c = omega (arith, (fits (goal.at.overflow_cast-result c).Else-number-ne0).1, c.room-room.ensures)

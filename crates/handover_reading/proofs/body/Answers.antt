@@ -7,7 +7,6 @@ use Rattle.handover_format.specs.PayloadDecoding.{stored_agent}
 use Rattle.refusals.specs.declared.Answer.TheVariants.{Done, Refused}
 use Rattle.handover_reading.specs.PayloadReading.{record_check, closes, each_of}
 use Rattle.handover_reading.proofs.AnswerLaws.{body_refused, body_agent, body_strings}
-use borrow.Author.Rules.{rules}
 use Rattle.handover_reading.proofs.body.Goals as goal
 use Rattle.handover_reading.proofs.body.Goals.{After-closes, In-Done}
 

@@ -7,7 +7,6 @@ use Rattle.refusals.specs.declared.Answer.TheVariants.{Refused}
 use Rattle.handover_reading.specs.PayloadReading.{head_check, body_answer}
 use Rattle.handover_reading.proofs.HeadLaws.{head_holds}
 use Rattle.handover_reading.proofs.AnswerLaws.{head_refuses, head_goes_on}
-use borrow.Author.Rules.{rules}
 use Rattle.handover_reading.proofs.read.Goals as goal
 use Rattle.handover_reading.proofs.read.Goals.{Else-check-ne0}
 

@@ -4,7 +4,6 @@ use mathlib.Core.Path.{◌≡◌, sym, ap, ◌∙◌}
 use mathlib.Core.List.{◌++◌}
 use native.Mathlib.Omega.{arith}
 use lib.ListN.{length}
-use borrow.Author.Rules.{rules}
 use Rattle.byte_layout.specs.Stored.{closed}
 use Rattle.lent_buffers.specs.Room.{room_of}
 use Rattle.refusals.specs.declared.Refusal.{Refusal}
@@ -27,7 +26,7 @@ said c = c.check-check.ensures ∙ ap (write_check _ _ _) c.room.ensures
 good : (c : Else-check-ne0) → let a = c.args in Judged a.records.now a.parts.now a.run.now (room_of a.buf.now)
 good c =
     let said' : (let a = c.args in c.check-check.result ≡ write_check a.records.now a.parts.now a.run.now (room_of a.buf.now)) =
-        c.check-check.ensures ∙ ap (write_check _ _ _) c.room.ensures in
+    c.check-check.ensures ∙ ap (write_check _ _ _) c.room.ensures in
     judged _ _ _ _ (sym said' ∙ c.if-check-ne0.false)
 
 -- the size by numbers, and by the parts that are stored
@@ -50,15 +49,15 @@ sized : (c : After-size-size) → let a = c.args in
     c.size-size.result ≡ payload_size (agent_given a.parts.now a.run.now) (entries_given a.records.now a.parts.now a.run.now)
 sized c =
     let good' : (let a = c.args in Judged a.records.now a.parts.now a.run.now (room_of a.buf.now)) =
-        let said' : (let a = c.args in c.check-check.result ≡ write_check a.records.now a.parts.now a.run.now (room_of a.buf.now)) =
-        c.check-check.ensures ∙ ap (write_check _ _ _) c.room.ensures in
-        judged _ _ _ _ (sym said' ∙ c.if-check-ne0.false) in
+    let said' : (let a = c.args in c.check-check.result ≡ write_check a.records.now a.parts.now a.run.now (room_of a.buf.now)) =
+    c.check-check.ensures ∙ ap (write_check _ _ _) c.room.ensures in
+    judged _ _ _ _ (sym said' ∙ c.if-check-ne0.false) in
     let fits' : (let a = c.args in let rs = a.records.now in let ps = a.parts.now in let run = a.run.now in let size = payload_size (agent_given ps run) (entries_given rs ps run) in (size ≡ record_start (count_given rs) + strings_start rs ps (count_given rs)) × (size ≡ record_start (count_given rs) + length (closed (agent_given ps run) ++ strings (entries_given rs ps run)))) =
-        let a = c.args in
-        let rs = a.records.now in
-        let ps = a.parts.now in
-        let run = a.run.now in
-        (size_given_law rs ps run, ap (λ (n : ℕ). record_start n + length (closed (agent_given ps run) ++ strings (entries_given rs ps run))) (length_entries rs ps run 0 (count_given rs))) in
+    let a = c.args in
+    let rs = a.records.now in
+    let ps = a.parts.now in
+    let run = a.run.now in
+    (size_given_law rs ps run, ap (λ (n : ℕ). record_start n + length (closed (agent_given ps run) ++ strings (entries_given rs ps run))) (length_entries rs ps run 0 (count_given rs))) in
     omega (arith, c.size-size.ensures, fits'.0, good'.within)
 
 pub returns-then-check-ne0 : goal.returns-then-check-ne0

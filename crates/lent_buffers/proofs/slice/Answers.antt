@@ -4,7 +4,6 @@ use Prim.Native.Nat.{ℕ, ◌+◌, ◌-◌}
 use native.Mathlib.Omega.{arith}
 use lib.ListN.{take, drop}
 use Rattle.byte_layout.proofs.Copies.{bytes_taken}
-use borrow.Author.Rules.{rules}
 use Rattle.lent_buffers.proofs.slice.Goals as goal
 
 pub returns : goal.returns

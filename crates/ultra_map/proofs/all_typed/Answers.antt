@@ -1,12 +1,9 @@
 -- `ultra_map::all_typed` meets its contract. The invariant: all entries have a type if and only if those left have.
-use Prim.Native.Nat.{◌-◌}
-use mathlib.Core.Path.{◌≡◌, refl, sym, ◌∙◌}
+use mathlib.Core.Path.{refl, sym, ◌∙◌}
 use native.Mathlib.Omega.{arith}
-use borrow.Author.Rules.{rules}
 use Rattle.words.proofs.Comparisons.{failed, held}
-use Rattle.ultra_format.specs.Members.{every, entry_typed}
+use Rattle.ultra_format.specs.Members.{entry_typed}
 use Rattle.ultra_rules.proofs.Every.{none_left, first_fails, first_passes}
-use Rattle.ultra_map.specs.OnePass.{Whole, entries_to}
 use Rattle.ultra_map.proofs.Entries.{no_entry_law, first_entry}
 use Rattle.ultra_map.proofs.all_typed.Goals as goal
 

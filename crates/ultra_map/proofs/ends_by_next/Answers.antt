@@ -1,7 +1,6 @@
 -- `ultra_map::ends_by_next` meets its contract.
 use Prim.Native.Nat.{◌+◌}
 use mathlib.Core.Path.{◌∙◌}
-use borrow.Author.Rules.{rules}
 use lib.Dec.{leb}
 use Rattle.ultra_map.proofs.ends_by_next.Goals as goal
 

@@ -1,6 +1,5 @@
 -- `ultra_map::entry_fits` meets its contract.
 use mathlib.Core.Path.{ap₂, ◌∙◌}
-use borrow.Author.Rules.{rules}
 use Rattle.address_ranges.specs.Ranges.{range_fits}
 use Rattle.ultra_map.proofs.entry_fits.Goals as goal
 

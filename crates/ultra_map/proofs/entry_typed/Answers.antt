@@ -1,6 +1,5 @@
 -- `ultra_map::entry_typed` meets its contract.
 use mathlib.Core.Path.{ap}
-use borrow.Author.Rules.{rules}
 use Rattle.ultra_format.specs.Members.{nonzero}
 use Rattle.ultra_map.proofs.entry_typed.Goals as goal
 

@@ -1,11 +1,8 @@
 -- `ultra_map::first_unsettled` meets its contract. The invariant: what is unsettled of all entries is what is unsettled of those left.
-use Prim.Native.Nat.{◌+◌, ◌-◌}
 use mathlib.Core.Path.{refl, sym, ◌∙◌}
 use native.Mathlib.Omega.{arith}
-use borrow.Author.Rules.{rules}
 use Rattle.words.proofs.Comparisons.{failed, held}
-use Rattle.ultra_map.specs.OnePass.{Whole, entries_to, settled}
-use Rattle.ultra_map.proofs.OnePass.{Left, untyped, passes_next, is_settled, last_left}
+use Rattle.ultra_map.proofs.OnePass.{untyped, passes_next, is_settled, last_left}
 use Rattle.ultra_map.proofs.Entries.{no_entry_law, first_entry}
 use Rattle.ultra_map.proofs.first_unsettled.Goals as goal
 

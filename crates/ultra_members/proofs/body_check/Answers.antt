@@ -1,7 +1,6 @@
 -- `ultra_members::body_check` meets its contract: each arm's answer is that of the body that its type decodes to.
 use mathlib.Core.Path.{refl, ◌∙◌}
 use native.Mathlib.Omega.{arith}
-use borrow.Author.Rules.{rules}
 use Rattle.ultra_format.specs.Decoding.{decoded}
 use Rattle.ultra_members.proofs.Bodies.{of_type_law, of_other}
 use Rattle.ultra_members.proofs.body_check.Goals as goal

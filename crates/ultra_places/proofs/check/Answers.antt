@@ -7,7 +7,6 @@ use lib.ListN.{length}
 use Rattle.ultra_format.specs.Places.{placed}
 use Rattle.ultra_format.specs.Decoding.{types_before}
 use Rattle.ultra_places.proofs.PlaceLaws.{length_types, stop_place, pass_low, stop_repeat, pass_new, pass_neighbour, stop_split}
-use borrow.Author.Rules.{rules}
 use Rattle.ultra_places.proofs.check.Goals as goal
 use Rattle.ultra_places.proofs.check.Goals.{Else-not-is_placed}
 

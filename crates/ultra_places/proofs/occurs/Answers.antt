@@ -3,7 +3,6 @@ use Prim.Native.Nat.{ℕ}
 use mathlib.Core.Path.{ap, ◌∙◌}
 use mathlib.Core.Bool.{not}
 use lib.Dec.{eqb}
-use borrow.Author.Rules.{rules}
 use Rattle.ultra_places.proofs.PlaceLaws.{found_is}
 use Rattle.ultra_places.proofs.occurs.Goals as goal
 

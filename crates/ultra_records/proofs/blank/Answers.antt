@@ -1,5 +1,4 @@
 -- `ultra_records::blank` meets its contract.
-use borrow.Author.Rules.{rules}
 use Rattle.ultra_records.proofs.blank.Goals as goal
 
 pub returns : goal.returns

@@ -5,7 +5,6 @@ use Rattle.ultra_format.specs.Decoding.{decoded}
 use Rattle.ultra_format.specs.Records.{records_of}
 use Rattle.ultra_format.proofs.Sizes.{platform_least, kernel_least, module_least, framebuffer_least}
 use Rattle.ultra_records.proofs.ByType.{records_of_law, records_blank}
-use borrow.Author.Rules.{rules}
 use Rattle.ultra_records.proofs.records.Goals as goal
 
 pub read-records-requires : goal.read-records-requires

@@ -1,7 +1,6 @@
 -- `header` meets its contract: the fields of an attribute's first 8 bytes.
 use Rattle.byte_layout.specs.Fields.{Field.number}
 use Rattle.byte_layout.proofs.Written.{nothing, next}
-use borrow.Author.Rules.{rules}
 use Rattle.ultra_writing.proofs.header.Goals as goal
 
 pub returns : goal.returns

@@ -29,7 +29,7 @@ pointer_is c =
     let here' : (let a = c.args in u32_at a.buf.now a.at ≡ a.kind) =
         sym c.kind.ensures ∙ c.if-kind.false in
     let a = c.args in
-    is_platform a.buf.now a.at a.kind here' c.in-1.keys1 ∙ ap pointer_entries (sym c.rsdp.ensures)
+    is_platform a.buf.now a.at a.kind here' c.in-1.is ∙ ap pointer_entries (sym c.rsdp.ensures)
 
 map_is : (c : In-3) → let a = c.args in
     becomes a.buf.now a.at a.kind ≡ range_entries (entries_at a.buf.now (a.at + 8) ((c.size-size.result - 8) / 24))
@@ -38,7 +38,7 @@ map_is c =
         sym c.kind.ensures ∙ c.if-kind.false in
     let a = c.args in
     let b = a.buf.now in
-    is_map b a.at a.kind here' c.in-3.keys2 ∙ ap (λ (n : ℕ). range_entries (entries_at b (a.at + 8) ((n - 8) / 24))) (sym c.size-size.ensures)
+    is_map b a.at a.kind here' c.in-3.is ∙ ap (λ (n : ℕ). range_entries (entries_at b (a.at + 8) ((n - 8) / 24))) (sym c.size-size.ensures)
 
 line_is : (c : In-5) → let a = c.args in
     becomes a.buf.now a.at a.kind ≡ line_entry (text_at a.buf.now (a.at + 8) (c.size-size.result - 8)) ∷ []
@@ -47,7 +47,7 @@ line_is c =
         sym c.kind.ensures ∙ c.if-kind.false in
     let a = c.args in
     let b = a.buf.now in
-    is_line b a.at a.kind here' c.in-5.keys4 ∙ ap (λ (n : ℕ). line_entry (text_at b (a.at + 8) (n - 8)) ∷ []) (sym c.size-size.ensures)
+    is_line b a.at a.kind here' c.in-5.is ∙ ap (λ (n : ℕ). line_entry (text_at b (a.at + 8) (n - 8)) ∷ []) (sym c.size-size.ensures)
 
 pub returns-then-kind : goal.returns-then-kind
 returns-then-kind c =
@@ -56,7 +56,7 @@ returns-then-kind c =
 
 pub rsdp-requires : goal.rsdp-requires
 rsdp-requires c =
-    platform_fits c.args.buf.now c.args.at c.args.kind (here (goal.at.rsdp-requires c).Else-kind) c.requires.attribute_at c.in-1.keys1
+    platform_fits c.args.buf.now c.args.at c.args.kind (here (goal.at.rsdp-requires c).Else-kind) c.requires.attribute_at c.in-1.is
 
 pub pointer-requires : goal.pointer-requires
 pointer-requires c = asked (goal.at.pointer-requires c).Else-kind _ (pointer_is (goal.at.pointer-requires c).After-rsdp)
@@ -69,7 +69,7 @@ all-requires c =
 pub file-requires : goal.file-requires
 file-requires c =
     let b = c.args.buf.now in
-    record { at_in_bounds = module_fits b c.args.at c.args.kind (here (goal.at.file-requires c).Else-kind) c.requires.attribute_at c.in-4.keys3; rows_fit = asked (goal.at.file-requires c).Else-kind _ (is_module b c.args.at c.args.kind (here (goal.at.file-requires c).Else-kind) c.in-4.keys3) }
+    record { at_in_bounds = module_fits b c.args.at c.args.kind (here (goal.at.file-requires c).Else-kind) c.requires.attribute_at c.in-4.is; rows_fit = asked (goal.at.file-requires c).Else-kind _ (is_module b c.args.at c.args.kind (here (goal.at.file-requires c).Else-kind) c.in-4.is) }
 
 pub line-requires : goal.line-requires
 line-requires c =
@@ -89,7 +89,7 @@ returns-in-3 c =
 pub returns-in-4 : goal.returns-in-4
 returns-in-4 c =
     let a = c.args in
-    c.file.ensures ∙ ap (rows_put (a.out.now, a.m)) (sym (is_module a.buf.now a.at a.kind (here (goal.at.returns-in-4 c).Else-kind) c.in-4.keys3))
+    c.file.ensures ∙ ap (rows_put (a.out.now, a.m)) (sym (is_module a.buf.now a.at a.kind (here (goal.at.returns-in-4 c).Else-kind) c.in-4.is))
 
 pub returns-in-5 : goal.returns-in-5
 returns-in-5 c =
@@ -99,5 +99,9 @@ returns-in-5 c =
 pub returns-in_default : goal.returns-in_default
 returns-in_default c =
     let a = c.args in
-    let n = c.in_default.rest in
-    rows_put_none a.out.now a.m ∙ ap (rows_put (a.out.now, a.m)) (sym (is_none a.buf.now a.at a.kind (here (goal.at.returns-in_default c).Else-kind) n.0.0.0.1 n.0.0.1 n.0.1 n.1))
+    let k = a.kind in
+    let n1 : k ≡ 1 → ⊥ = omega arith in
+    let n3 : k ≡ 3 → ⊥ = omega arith in
+    let n4 : k ≡ 4 → ⊥ = omega arith in
+    let n5 : k ≡ 5 → ⊥ = omega arith in
+    rows_put_none a.out.now a.m ∙ ap (rows_put (a.out.now, a.m)) (sym (is_none a.buf.now a.at a.kind (here (goal.at.returns-in_default c).Else-kind) n1 n3 n4 n5))

@@ -28,17 +28,17 @@ returns-then-kind c =
 
 pub rsdp-requires : goal.rsdp-requires
 rsdp-requires c =
-    platform_fits c.args.buf.now c.args.at c.args.kind (here (goal.at.rsdp-requires c).Else-kind) c.requires.attribute_at c.in-1.keys1
+    platform_fits c.args.buf.now c.args.at c.args.kind (here (goal.at.rsdp-requires c).Else-kind) c.requires.attribute_at c.in-1.is
 
 pub text_length-requires : goal.text_length-requires
 text_length-requires c =
-    omega (arith, module_fits c.args.buf.now c.args.at c.args.kind (here (goal.at.text_length-requires c).Else-kind) c.requires.attribute_at c.in-4.keys3)
+    omega (arith, module_fits c.args.buf.now c.args.at c.args.kind (here (goal.at.text_length-requires c).Else-kind) c.requires.attribute_at c.in-4.is)
 
 pub returns-in-1 : goal.returns-in-1
 returns-in-1 c =
     let a = c.args in
     let p = c.pointer.ensures in (
-      p.0 ∙ ap (λ (x : ℕ). grown a.m (pointer_entries x)) c.rsdp.ensures ∙ ap (grown a.m) (sym (is_platform a.buf.now a.at a.kind (here (goal.at.returns-in-1 c).Else-kind) c.in-1.keys1)),
+      p.0 ∙ ap (λ (x : ℕ). grown a.m (pointer_entries x)) c.rsdp.ensures ∙ ap (grown a.m) (sym (is_platform a.buf.now a.at a.kind (here (goal.at.returns-in-1 c).Else-kind) c.in-1.is)),
       omega (arith, p.1),
       omega (arith, p.2),
     )
@@ -51,7 +51,7 @@ returns-in-3 c =
     let n = (u32_at b (a.at + 4) - 8) / 24 in
     let es = entries_at b (a.at + 8) n in (
       extent_is a.m (range_entries es) _ _ (omega (arith, size, ranges_length es, length_entries b (a.at + 8) n)) (omega (arith, ap length (ranges_strings es)))
-          ∙ ap (grown a.m) (sym (is_map b a.at a.kind (here (goal.at.returns-in-3 c).Else-kind) c.in-3.keys2)),
+          ∙ ap (grown a.m) (sym (is_map b a.at a.kind (here (goal.at.returns-in-3 c).Else-kind) c.in-3.is)),
       omega (arith, size),
       omega arith,
     )
@@ -61,7 +61,7 @@ returns-in-4 c =
     let a = c.args in
     let b = a.buf.now in (
       extent_is a.m (file_entry (module_at b a.at) ∷ []) _ _ refl (omega (arith, c.text_length.ensures.0, file_width (module_at b a.at)))
-          ∙ ap (grown a.m) (sym (is_module b a.at a.kind (here (goal.at.returns-in-4 c).Else-kind) c.in-4.keys3)),
+          ∙ ap (grown a.m) (sym (is_module b a.at a.kind (here (goal.at.returns-in-4 c).Else-kind) c.in-4.is)),
       omega arith,
       omega (arith, c.text_length.ensures.1),
     )
@@ -73,7 +73,7 @@ returns-in-5 c =
     let x = text_at b (a.at + 8) (u32_at b (a.at + 4) - 8) in
     let n = c.text_length-in-5.ensures.0 ∙ ap (λ (k : ℕ). length (text_at b (a.at + 8) (k - 8))) c.size-size.ensures in (
       extent_is a.m (line_entry x ∷ []) _ _ refl (omega (arith, n, line_width x))
-          ∙ ap (grown a.m) (sym (is_line b a.at a.kind (here (goal.at.returns-in-5 c).Else-kind) c.in-5.keys4)),
+          ∙ ap (grown a.m) (sym (is_line b a.at a.kind (here (goal.at.returns-in-5 c).Else-kind) c.in-5.is)),
       omega arith,
       omega (arith, c.text_length-in-5.ensures.1, c.size-size.ensures),
     )
@@ -81,5 +81,9 @@ returns-in-5 c =
 pub returns-in_default : goal.returns-in_default
 returns-in_default c =
     let a = c.args in
-    let n = c.in_default.rest in
-    (grown_none a.m ∙ ap (grown a.m) (sym (is_none a.buf.now a.at a.kind (here (goal.at.returns-in_default c).Else-kind) n.0.0.0.1 n.0.0.1 n.0.1 n.1)), omega arith, omega arith)
+    let k = a.kind in
+    let n1 : k ≡ 1 → ⊥ = omega arith in
+    let n3 : k ≡ 3 → ⊥ = omega arith in
+    let n4 : k ≡ 4 → ⊥ = omega arith in
+    let n5 : k ≡ 5 → ⊥ = omega arith in
+    (grown_none a.m ∙ ap (grown a.m) (sym (is_none a.buf.now a.at a.kind (here (goal.at.returns-in_default c).Else-kind) n1 n3 n4 n5)), omega arith, omega arith)

@@ -30,7 +30,7 @@ line_is c =
         sym c.kind.ensures ∙ c.if-kind.false in
     let a = c.args in
     let b = a.buf.now in
-    ap strings (is_line b a.at a.kind here' c.in-5.keys2)
+    ap strings (is_line b a.at a.kind here' c.in-5.is)
     ∙ line_strings (text_at b (a.at + 8) (u32_at b (a.at + 4) - 8))
     ∙ ap (λ (n : ℕ). closed (text_at b (a.at + 8) (n - 8))) (sym c.size-size.ensures)
 
@@ -45,7 +45,7 @@ pub file-requires : goal.file-requires
 file-requires c =
     let a = c.args in
     let b = a.buf.now in
-    record { at_in_bounds = module_fits b a.at a.kind (here (goal.at.file-requires c).Else-kind) c.requires.attribute_at c.in-4.keys1; at_in_bounds_2 = omega (arith, c.requires.kind_in_bounds, ap (λ (l : List Entry). length (strings l)) (is_module b a.at a.kind (here (goal.at.file-requires c).Else-kind) c.in-4.keys1)) }
+    record { at_in_bounds = module_fits b a.at a.kind (here (goal.at.file-requires c).Else-kind) c.requires.attribute_at c.in-4.is; at_in_bounds_2 = omega (arith, c.requires.kind_in_bounds, ap (λ (l : List Entry). length (strings l)) (is_module b a.at a.kind (here (goal.at.file-requires c).Else-kind) c.in-4.is)) }
 
 pub text-requires : goal.text-requires
 text-requires c =
@@ -54,7 +54,7 @@ text-requires c =
 pub returns-in-4 : goal.returns-in-4
 returns-in-4 c =
     let a = c.args in
-    c.file.ensures ∙ ap (λ (l : List Entry). bytes_put (a.out.now, a.to) (strings l)) (sym (is_module a.buf.now a.at a.kind (here (goal.at.returns-in-4 c).Else-kind) c.in-4.keys1))
+    c.file.ensures ∙ ap (λ (l : List Entry). bytes_put (a.out.now, a.to) (strings l)) (sym (is_module a.buf.now a.at a.kind (here (goal.at.returns-in-4 c).Else-kind) c.in-4.is))
 
 pub returns-in-5 : goal.returns-in-5
 returns-in-5 c =
@@ -64,5 +64,7 @@ returns-in-5 c =
 pub returns-in_default : goal.returns-in_default
 returns-in_default c =
     let a = c.args in
-    let n = c.in_default.rest in
-    bytes_put_none a.out.now a.to ∙ ap (bytes_put (a.out.now, a.to)) (sym (is_stringless a.buf.now a.at a.kind (here (goal.at.returns-in_default c).Else-kind) n.0.1 n.1))
+    let k = a.kind in
+    let n4 : k ≡ 4 → ⊥ = omega arith in
+    let n5 : k ≡ 5 → ⊥ = omega arith in
+    bytes_put_none a.out.now a.to ∙ ap (bytes_put (a.out.now, a.to)) (sym (is_stringless a.buf.now a.at a.kind (here (goal.at.returns-in_default c).Else-kind) n4 n5))

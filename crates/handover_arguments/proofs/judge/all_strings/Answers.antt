@@ -1,11 +1,9 @@
 -- `handover_arguments::judge::all_strings` meets its contract: the test holds of every record before `i`.
-use Prim.Native.Nat.{◌-◌, ◌≤◌}
 use mathlib.Core.Path.{◌≡◌, sym}
-use mathlib.Core.Bool.{true}
 use native.Mathlib.Omega.{arith}
 use borrow.Author.Rules.{rules}
 use Rattle.words.proofs.Comparisons.{failed, held}
-use Rattle.handover_arguments.specs.Judging.{every, strings_good}
+use Rattle.handover_arguments.specs.Judging.{strings_good}
 use Rattle.handover_arguments.proofs.EveryLaws.{every_none, every_more, every_stop}
 use Rattle.handover_arguments.proofs.judge.all_strings.Goals as goal
 use Rattle.handover_arguments.proofs.judge.all_strings.Goals.{After-strings_good}

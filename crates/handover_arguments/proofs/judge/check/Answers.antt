@@ -1,10 +1,8 @@
 -- `handover_arguments::judge::check` meets its contract: one law for each return.
-use Prim.Native.Nat.{ℕ, ◌≤◌}
+use Prim.Native.Nat.{◌≤◌}
 use mathlib.Core.Path.{◌≡◌}
 use mathlib.Core.Bool.{true}
-use mathlib.Core.List.{List}
 use native.Mathlib.Omega.{arith}
-use borrow.Author.Rules.{rules}
 use Rattle.words.proofs.Comparisons.{failed, held}
 use Rattle.handover_format.specs.RecordTests.{if_named}
 use Rattle.handover_arguments.specs.PayloadGiven.{count_given, agent_part}

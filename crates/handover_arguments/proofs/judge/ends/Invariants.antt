@@ -1,14 +1,8 @@
 -- `handover_arguments::judge::ends` meets its contract: the test holds of every record before `i`.
-use Prim.Native.Nat.{◌+◌, ◌-◌, ◌≤◌}
-use mathlib.Core.Path.{◌≡◌, sym, ap, ◌∙◌}
+use Prim.Native.Nat.{◌-◌, ◌≤◌}
+use mathlib.Core.Path.{◌≡◌}
 use mathlib.Core.Bool.{true}
-use native.Mathlib.Omega.{arith}
-use lib.Dec.{eqb}
-use borrow.Author.Rules.{rules}
-use Rattle.words.proofs.Comparisons.{failed, held}
-use Rattle.handover_format.specs.RecordTests.{end_suits}
 use Rattle.handover_arguments.specs.Judging.{every, end_good}
-use Rattle.handover_arguments.proofs.EveryLaws.{every_none, every_more, every_stop}
 use Rattle.handover_arguments.proofs.judge.ends.Given as goal
 
 abbrev pub invariant-loop-i : goal.invariant-loop-i

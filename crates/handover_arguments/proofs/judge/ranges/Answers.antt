@@ -1,12 +1,10 @@
 -- `handover_arguments::judge::ranges` meets its contract: the test holds of every record before `i`.
-use Prim.Native.Nat.{◌-◌, ◌≤◌}
 use mathlib.Core.Path.{◌≡◌, sym, ap₂, ◌∙◌}
-use mathlib.Core.Bool.{true}
 use native.Mathlib.Omega.{arith}
 use borrow.Author.Rules.{rules}
 use Rattle.words.proofs.Comparisons.{failed, held}
 use Rattle.address_ranges.specs.Ranges.{range_fits}
-use Rattle.handover_arguments.specs.Judging.{every, range_good}
+use Rattle.handover_arguments.specs.Judging.{range_good}
 use Rattle.handover_arguments.proofs.EveryLaws.{every_none, every_more, every_stop}
 use Rattle.handover_arguments.proofs.judge.ranges.Goals as goal
 use Rattle.handover_arguments.proofs.judge.ranges.Goals.{After-fits}

@@ -1,7 +1,6 @@
 -- `handover_arguments::judge::run_has` meets its contract.
 use native.Mathlib.Omega.{arith}
 use Rattle.handover_arguments.proofs.JudgeLaws.{past_run, in_run}
-use borrow.Author.Rules.{rules}
 use Rattle.handover_arguments.proofs.judge.run_has.Goals as goal
 
 pub returns-then-all-start : goal.returns-then-all-start

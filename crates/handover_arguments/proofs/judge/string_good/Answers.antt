@@ -5,7 +5,6 @@ use borrow.Author.Tests.{not-true, not-false}
 use Rattle.handover_format.specs.RecordTests.{if_named}
 use Rattle.handover_arguments.specs.Judging.{run_has}
 use Rattle.handover_arguments.proofs.JudgeLaws.{not_lent, lent}
-use borrow.Author.Rules.{rules}
 use Rattle.handover_arguments.proofs.judge.string_good.Goals as goal
 
 pub returns-then-not-named : goal.returns-then-not-named

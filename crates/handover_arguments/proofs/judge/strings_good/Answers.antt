@@ -6,7 +6,6 @@ use Rattle.handover_format.specs.RecordTests.{if_named}
 use Rattle.handover_arguments.specs.PayloadGiven.{record_given, name_part, meta_part}
 use Rattle.handover_arguments.specs.Judging.{string_good}
 use Rattle.handover_arguments.proofs.JudgeLaws.{slot_said, name_stops, meta_says}
-use borrow.Author.Rules.{rules}
 use Rattle.handover_arguments.proofs.judge.strings_good.Goals as goal
 use Rattle.handover_arguments.proofs.judge.strings_good.Goals.{After-string_good}
 

@@ -3,7 +3,6 @@ use mathlib.Core.Path.{refl}
 use mathlib.Core.Bool.{true}
 use native.Mathlib.Omega.{arith}
 use Rattle.handover_arguments.proofs.MeasureLaws.{named_width}
-use borrow.Author.Rules.{rules}
 use Rattle.handover_arguments.proofs.measure.agent_width.Goals as goal
 
 pub returns : goal.returns

@@ -3,7 +3,6 @@ use Prim.Native.Nat.{ℕ, ◌+◌, min}
 use mathlib.Core.Path.{ap₂, ◌∙◌}
 use mathlib.Core.Bool.{Bool}
 use Rattle.handover_arguments.specs.Measures.{width_if}
-use borrow.Author.Rules.{rules}
 use Rattle.handover_arguments.proofs.measure.with_name.Goals as goal
 
 pub returns : goal.returns

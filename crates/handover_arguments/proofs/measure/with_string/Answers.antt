@@ -2,7 +2,6 @@
 use native.Mathlib.Omega.{arith}
 use borrow.Author.Tests.{not-true, not-false}
 use Rattle.handover_arguments.proofs.MeasureLaws.{unnamed_width, named_width}
-use borrow.Author.Rules.{rules}
 use Rattle.handover_arguments.proofs.measure.with_string.Goals as goal
 
 pub returns-then-not-named : goal.returns-then-not-named

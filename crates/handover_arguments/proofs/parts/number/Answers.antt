@@ -1,7 +1,6 @@
 -- `handover_arguments::parts::number` meets its contract.
 use mathlib.Core.Path.{sym}
 use lib.ListN.{get_or-eq_default}
-use borrow.Author.Rules.{rules}
 use Rattle.handover_arguments.proofs.parts.number.Goals as goal
 
 pub returns-then-parts-k : goal.returns-then-parts-k

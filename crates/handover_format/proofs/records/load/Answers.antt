@@ -1,5 +1,4 @@
 -- `handover_format::records::load` meets its contract.
-use borrow.Author.Rules.{rules}
 use Rattle.handover_format.proofs.records.load.Goals as goal
 
 pub returns : goal.returns

@@ -1,7 +1,6 @@
 -- `handover_reading::head::check` meets its contract: one law a return.
 use native.Mathlib.Omega.{arith}
 use Rattle.handover_reading.proofs.HeadLaws.{stop_short, stop_magic, stop_none, stop_many, stop_least, stop_within, head_passes}
-use borrow.Author.Rules.{rules}
 use Rattle.handover_reading.proofs.head.check.Goals as goal
 
 pub returns-then-room-lt16 : goal.returns-then-room-lt16

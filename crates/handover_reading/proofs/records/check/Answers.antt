@@ -2,7 +2,6 @@
 use mathlib.Core.Path.{sym, ◌∙◌}
 use borrow.Author.Tests.{not-true, not-false}
 use Rattle.handover_reading.proofs.RecordLaws.{stop_end, stop_range, words_pass}
-use borrow.Author.Rules.{rules}
 use Rattle.handover_reading.proofs.records.check.Goals as goal
 
 pub returns-then-not-end_suits : goal.returns-then-not-end_suits

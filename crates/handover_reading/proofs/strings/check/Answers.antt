@@ -1,7 +1,6 @@
 -- `handover_reading::strings::check` meets its contract: one law a return.
 use borrow.Author.Tests.{not-true, not-false}
 use Rattle.handover_reading.proofs.RecordLaws.{stop_name, stop_meta, strings_pass, slot_said}
-use borrow.Author.Rules.{rules}
 use Rattle.handover_reading.proofs.strings.check.Goals as goal
 
 pub returns-then-not-named_closes : goal.returns-then-not-named_closes

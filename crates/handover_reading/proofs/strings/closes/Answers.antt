@@ -1,7 +1,6 @@
 -- `handover_reading::strings::closes` meets its contract.
 use native.Mathlib.Omega.{arith}
 use Rattle.handover_reading.proofs.RecordLaws.{past_table, in_table}
-use borrow.Author.Rules.{rules}
 use Rattle.handover_reading.proofs.strings.closes.Goals as goal
 
 pub returns-then-extent-at : goal.returns-then-extent-at

@@ -1,13 +1,13 @@
 -- `handover_reading::strings::each` meets its contract. The invariant: the answer from record `i` on is the answer from the first on.
-use Prim.Native.Nat.{ℕ, ◌+◌, ◌-◌, ◌≤◌}
-use mathlib.Core.Path.{◌≡◌, sym, ap, ap₂, ◌∙◌}
+use Prim.Native.Nat.{ℕ, ◌-◌}
+use mathlib.Core.Path.{◌≡◌, sym, ap, ◌∙◌}
 use native.Mathlib.Omega.{arith}
 use native.Mathlib.Nat.{sub-zero}
 use borrow.Author.Rules.{rules}
 use Rattle.refusals.specs.Answers.{refusal_at}
 use Rattle.handover_format.specs.Payloads.{record_start}
 use Rattle.refusals.specs.declared.Answer.TheVariants.{Refused}
-use Rattle.handover_reading.specs.PayloadReading.{strings_check, named_check, each_of}
+use Rattle.handover_reading.specs.PayloadReading.{strings_check, named_check}
 use Rattle.handover_reading.proofs.EachLaws.{each_refuse, each_next, each_end}
 use Rattle.handover_reading.proofs.strings.each.Goals as goal
 use Rattle.handover_reading.proofs.strings.each.Goals.{After-check-number}

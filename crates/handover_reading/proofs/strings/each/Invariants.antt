@@ -1,14 +1,8 @@
 -- `handover_reading::strings::each` meets its contract. The invariant: the answer from record `i` on is the answer from the first on.
-use Prim.Native.Nat.{ℕ, ◌+◌, ◌-◌, ◌≤◌}
-use mathlib.Core.Path.{◌≡◌, sym, ap, ap₂, ◌∙◌}
-use native.Mathlib.Omega.{arith}
-use native.Mathlib.Nat.{sub-zero}
-use borrow.Author.Rules.{rules}
-use Rattle.refusals.specs.Answers.{refusal_at}
+use Prim.Native.Nat.{◌-◌, ◌≤◌}
+use mathlib.Core.Path.{◌≡◌}
 use Rattle.handover_format.specs.Payloads.{record_start}
-use Rattle.refusals.specs.declared.Answer.TheVariants.{Refused}
-use Rattle.handover_reading.specs.PayloadReading.{strings_check, named_check, each_of}
-use Rattle.handover_reading.proofs.EachLaws.{each_refuse, each_next, each_end}
+use Rattle.handover_reading.specs.PayloadReading.{named_check, each_of}
 use Rattle.handover_reading.proofs.strings.each.Given as goal
 
 abbrev pub invariant-loop-i : goal.invariant-loop-i

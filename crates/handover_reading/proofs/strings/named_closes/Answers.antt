@@ -1,7 +1,6 @@
 -- `handover_reading::strings::named_closes` meets its contract.
 use mathlib.Core.Path.{◌∙◌}
 use borrow.Author.Tests.{not-true, not-false}
-use borrow.Author.Rules.{rules}
 use Rattle.handover_reading.proofs.RecordLaws.{unnamed_suits, named_suits}
 use Rattle.handover_reading.proofs.strings.named_closes.Goals as goal
 

@@ -2,7 +2,6 @@
 use Prim.Native.Nat.{◌+◌}
 use mathlib.Core.Path.{◌≡◌, ap, ◌∙◌}
 use native.Mathlib.Omega.{arith}
-use borrow.Author.Rules.{rules}
 use Rattle.words.specs.Words.{replaced}
 use Rattle.byte_layout.specs.Fields.{cells, filled}
 use Rattle.handover_format.specs.Payloads.{names_name, names_meta, record_start}
@@ -25,9 +24,9 @@ next_at : (c : After-with_meta) → let a = c.args in
     c.with_meta.result ≡ a.at + name_width a.records.now a.parts.now a.i + meta_width a.records.now a.parts.now a.i
 next_at c =
     let meta_at' : (let a = c.args in c.with_name-meta.result ≡ a.at + name_width a.records.now a.parts.now a.i) =
-        let a = c.args in
-        let e = ap (λ (r : Record). width_if (names_name r.tag) (length_given a.parts.now (name_part a.i))) c.load-given.ensures in
-        omega (arith, c.with_name-meta.ensures, c.requires.i_bound) in
+    let a = c.args in
+    let e = ap (λ (r : Record). width_if (names_name r.tag) (length_given a.parts.now (name_part a.i))) c.load-given.ensures in
+    omega (arith, c.with_name-meta.ensures, c.requires.i_bound) in
     let a = c.args in
     let e = ap (λ (r : Record). width_if (names_meta r.tag) (length_given a.parts.now (meta_part a.i))) c.load-given.ensures in
     omega (arith, c.with_meta.ensures, meta_at', c.requires.i_bound)

@@ -1,17 +1,13 @@
 -- `handover_writing::fill::rows` meets its contract: the records before `i` are stored, and `at` is where this one's strings start.
 use Prim.Native.Nat.{ℕ, ◌-◌, ◌≤◌}
-use mathlib.Core.Path.{◌≡◌, refl, ◌∙◌}
+use mathlib.Core.Path.{◌≡◌}
 use mathlib.Core.List.{List}
-use native.Mathlib.Omega.{arith}
 use lib.ListN.{length}
-use borrow.Author.Rules.{rules}
 use Rattle.byte_layout.specs.Stored.{closed}
 use Rattle.handover_format.specs.WrittenForm.{rows_bytes}
 use Rattle.handover_arguments.specs.PayloadGiven.{agent_given, entries_from}
 use Rattle.handover_arguments.specs.Measures.{strings_start}
-use Rattle.handover_arguments.proofs.MeasureLaws.{start_first, start_next, start_below, agent_below}
 use Rattle.handover_writing.specs.Stores.{put}
-use Rattle.handover_writing.proofs.FillLaws.{first_rows, next_rows}
 use Rattle.handover_writing.proofs.fill.rows.Given as goal
 
 abbrev pub invariant-loop-i : goal.invariant-loop-i

@@ -4,7 +4,6 @@ use mathlib.Core.Path.{◌≡◌, ◌∙◌}
 use mathlib.Core.Bool.{true}
 use native.Mathlib.Omega.{arith}
 use lib.ListN.{length}
-use borrow.Author.Rules.{rules}
 use borrow.Author.Tests.{not-true, not-false}
 use Rattle.words.specs.Words.{replaced}
 use Rattle.byte_layout.specs.Stored.{bytes_at, closed}
@@ -52,5 +51,8 @@ returns c =
     let n = length_given a.parts.now a.k in
     let f = c.start_at-start.ensures in
     let g = c.length_at-size.ensures in
-    record { value = omega (arith, length_named a.named a.run.now s n (named (goal.at.returns c).Else-not-named), g); out_after = one_string a.named a.out.now _ a.run.now a.at s n (named (goal.at.returns c).Else-not-named)
-          (c.string.ensures ∙ (λ j. replaced a.out.now a.at (g j + 1) (closed (bytes_at a.run.now (f j) (g j))))) }
+    record {
+      value = omega (arith, length_named a.named a.run.now s n (named (goal.at.returns c).Else-not-named), g);
+      out_after = one_string a.named a.out.now _ a.run.now a.at s n (named (goal.at.returns c).Else-not-named)
+          (c.string.ensures ∙ (λ j. replaced a.out.now a.at (g j + 1) (closed (bytes_at a.run.now (f j) (g j)))));
+    }

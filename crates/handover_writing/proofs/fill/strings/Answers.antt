@@ -1,14 +1,9 @@
 -- `handover_writing::fill::strings` meets its contract: the strings of the records before `i` are stored, and `at` is where they end.
-use Prim.Native.Nat.{◌+◌, ◌-◌, ◌≤◌}
 use mathlib.Core.Path.{◌≡◌, refl}
 use native.Mathlib.Omega.{arith}
-use lib.ListN.{length}
 use borrow.Author.Rules.{rules}
-use Rattle.handover_format.specs.WrittenForm.{strings}
-use Rattle.handover_arguments.specs.PayloadGiven.{entries_from}
 use Rattle.handover_arguments.specs.Judging.{strings_good}
 use Rattle.handover_arguments.proofs.EveryLaws.{every_at}
-use Rattle.handover_writing.specs.Stores.{put}
 use Rattle.handover_writing.proofs.FillLaws.{strings_below, first_strings, next_strings}
 use Rattle.handover_writing.proofs.fill.strings.Goals as goal
 

@@ -2,7 +2,6 @@
 use mathlib.Core.Path.{◌≡◌, ap, ◌∙◌}
 use mathlib.Core.Bool.{Bool}
 use native.Mathlib.Omega.{arith}
-use borrow.Author.Rules.{rules}
 use Rattle.handover_format.specs.Payloads.{names_name, names_meta}
 use Rattle.handover_format.specs.RecordTests.{if_named}
 use Rattle.handover_arguments.specs.PayloadGiven.{record_given, name_part, meta_part}

@@ -4,7 +4,6 @@ use mathlib.Core.Path.{◌≡◌}
 use mathlib.Core.List.{◌++◌}
 use native.Mathlib.Omega.{arith}
 use lib.ListN.{length, length-append}
-use borrow.Author.Rules.{rules}
 use Rattle.byte_layout.specs.Stored.{closed}
 use Rattle.handover_format.specs.Payloads.{record_start}
 use Rattle.handover_format.specs.RecordTests.{if_named}

@@ -2,7 +2,6 @@
 use native.Mathlib.Omega.{arith}
 use Rattle.byte_layout.specs.Fields.{Field.number}
 use Rattle.byte_layout.proofs.Runs.{laid_none, laid_next}
-use borrow.Author.Rules.{rules}
 use Rattle.handover_writing.proofs.store.head.Goals as goal
 
 pub returns : goal.returns

@@ -1,5 +1,4 @@
 -- `handover_writing::store::placed` meets its contract.
-use borrow.Author.Rules.{rules}
 use Rattle.handover_writing.proofs.StoreLaws.{placed_words}
 use Rattle.handover_writing.proofs.store.placed.Goals as goal
 

@@ -6,7 +6,6 @@ use native.Mathlib.Nat.{add-zero}
 use Rattle.words.specs.Words.{little_endian, replaced}
 use Rattle.byte_layout.specs.Fields.{Field.number}
 use Rattle.byte_layout.proofs.Runs.{laid_none, laid_next}
-use borrow.Author.Rules.{rules}
 use Rattle.handover_writing.proofs.store.row.Goals as goal
 
 pub returns : goal.returns

@@ -1,7 +1,6 @@
 -- `handover_writing::store::string` meets its contract.
 use mathlib.Core.Path.{refl}
 use Rattle.handover_writing.proofs.StoreLaws.{string_stored}
-use borrow.Author.Rules.{rules}
 use Rattle.handover_writing.proofs.store.string.Goals as goal
 
 pub returns : goal.returns

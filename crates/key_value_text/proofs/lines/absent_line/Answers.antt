@@ -3,7 +3,6 @@ use mathlib.Core.Path.{sym, ◌∙◌}
 use Rattle.key_value_text.specs.Lines.{Value.absent, value_bytes}
 use Rattle.text_output.proofs.Puts.{puts_one}
 use Rattle.key_value_text.proofs.LinePuts.{line_put}
-use borrow.Author.Rules.{rules}
 use Rattle.key_value_text.proofs.lines.absent_line.Goals as goal
 
 pub returns : goal.returns

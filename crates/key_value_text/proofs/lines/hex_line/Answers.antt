@@ -2,7 +2,6 @@
 use Rattle.byte_layout.specs.Stored.{bytes_at}
 use Rattle.key_value_text.specs.Lines.{Value.hex, value_bytes}
 use Rattle.key_value_text.proofs.LinePuts.{line_put}
-use borrow.Author.Rules.{rules}
 use Rattle.key_value_text.proofs.lines.hex_line.Goals as goal
 
 pub returns : goal.returns

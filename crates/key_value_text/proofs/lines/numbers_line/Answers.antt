@@ -1,7 +1,6 @@
 -- `lines::numbers_line` meets its contract.
 use Rattle.key_value_text.specs.Lines.{Value.numbers, value_bytes}
 use Rattle.key_value_text.proofs.LinePuts.{line_put}
-use borrow.Author.Rules.{rules}
 use Rattle.key_value_text.proofs.lines.numbers_line.Goals as goal
 
 pub returns : goal.returns

@@ -1,5 +1,4 @@
 -- `lines::put_key` meets its contract.
-use borrow.Author.Rules.{rules}
 use Rattle.text_output.proofs.Puts.{byte_after}
 use Rattle.key_value_text.proofs.lines.put_key.Goals as goal
 

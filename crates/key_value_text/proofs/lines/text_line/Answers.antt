@@ -8,7 +8,6 @@ use Rattle.key_value_text.specs.Lines.{Value.text, value_bytes}
 use Rattle.text_output.specs.Output.{puts}
 use Rattle.text_output.specs.Spelling.{each, spelled}
 use Rattle.key_value_text.proofs.LinePuts.{line_put}
-use borrow.Author.Rules.{rules}
 use Rattle.key_value_text.proofs.lines.text_line.Goals as goal
 
 pub returns : goal.returns

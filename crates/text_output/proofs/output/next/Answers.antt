@@ -1,5 +1,4 @@
 -- `output::next` meets its contract.
-use borrow.Author.Rules.{rules}
 use borrow.Author.Tests.{lt-ltb, le-ltb}
 use Rattle.text_output.specs.Output.{next}
 use Rattle.text_output.proofs.output.next.Goals as goal

@@ -1,5 +1,4 @@
 -- `output::put` meets its contract: a byte past the end is not put.
-use borrow.Author.Rules.{rules}
 use Rattle.text_output.proofs.Puts.{put_past, put_within}
 use Rattle.text_output.proofs.output.put.Goals as goal
 

@@ -1,14 +1,8 @@
 -- `output::put_all` meets its contract. The invariant: what is left, put from here on, leads to what all of it leads to.
 use Prim.Native.Nat.{◌-◌, ◌≤◌}
-use mathlib.Core.Path.{◌≡◌, refl, sym, ◌∙◌}
-use native.Mathlib.Omega.{arith}
-use borrow.Author.Rules.{rules}
+use mathlib.Core.Path.{◌≡◌}
 use lib.ListN.{length, drop}
 use Rattle.text_output.specs.Output.{puts}
-use Rattle.text_output.proofs.Puts.{byte_next, byte_end}
-use Rattle.text_output.proofs.output.put_all.Reads as reads
-use Rattle.text_output.proofs.output.put_all.Lts as lts
-use Rattle.text_output.proofs.output.put.Reads as put_reads
 use Rattle.text_output.proofs.output.put_all.Given as goal
 
 abbrev pub invariant-loop-i : goal.invariant-loop-i

@@ -1,13 +1,9 @@
 -- `spelling::escaped` meets its contract. The invariant: what is left, put from here on, leads to what all of it leads to.
-use Prim.Native.Nat.{◌+◌, ◌-◌, ◌≤◌}
-use mathlib.Core.Path.{◌≡◌, refl, sym, ◌∙◌}
+use mathlib.Core.Path.{refl, sym, ◌∙◌}
 use native.Mathlib.Nat.{add-zero, sub-zero}
 use native.Mathlib.Omega.{arith}
 use borrow.Author.Rules.{rules}
-use lib.ListN.{length}
-use Rattle.byte_layout.specs.Stored.{bytes_at}
-use Rattle.text_output.specs.Output.{puts}
-use Rattle.text_output.specs.Spelling.{each, spelled}
+use Rattle.text_output.specs.Spelling.{spelled}
 use Rattle.text_output.proofs.Puts.{bytes_next, bytes_end}
 use Rattle.text_output.proofs.spelling.escaped.Goals as goal
 

@@ -1,5 +1,4 @@
 -- `spelling::hex_digit` meets its contract.
-use borrow.Author.Rules.{rules}
 use borrow.Author.Tests.{lt-ltb, le-ltb}
 use Rattle.text_output.specs.Spelling.{hex_digit}
 use Rattle.text_output.proofs.spelling.hex_digit.Goals as goal

@@ -1,6 +1,5 @@
 -- `spelling::hex_pair` meets its contract.
 use mathlib.Core.Path.{ap, ◌∙◌}
-use borrow.Author.Rules.{rules}
 use Rattle.text_output.specs.Output.{put}
 use Rattle.text_output.proofs.Puts.{two_bytes}
 use Rattle.text_output.proofs.spelling.hex_pair.Goals as goal

@@ -1,12 +1,9 @@
 -- `spelling::joined` meets its contract. The invariant: what is left, put from here on, leads to what all of it leads to.
 use Prim.Native.Nat.{◌-◌, ◌≤◌}
-use mathlib.Core.Path.{◌≡◌, refl, sym, ◌∙◌}
-use native.Mathlib.Omega.{arith}
-use borrow.Author.Rules.{rules}
+use mathlib.Core.Path.{◌≡◌}
 use lib.ListN.{length, drop}
 use Rattle.text_output.specs.Output.{puts}
 use Rattle.text_output.specs.Spelling.{each, after}
-use Rattle.text_output.proofs.Puts.{byte_before, list_next, list_end, joined_none, joined_first}
 use Rattle.text_output.proofs.spelling.joined.Given as goal
 
 abbrev pub invariant-loop-i : goal.invariant-loop-i

@@ -1,7 +1,5 @@
 -- `spelling::spelled` meets its contract.
-use mathlib.Core.Path.{sym, ap, ◌∙◌}
-use mathlib.Core.Bool.{true, false}
-use borrow.Author.Rules.{rules}
+use mathlib.Core.Path.{sym, ◌∙◌}
 use Rattle.text_output.proofs.Puts.{byte_before, puts_one}
 use Rattle.text_output.proofs.Digits.{escaped_byte, plain_byte}
 use Rattle.text_output.proofs.spelling.spelled.Goals as goal

@@ -1,7 +1,6 @@
 -- `ultra_arguments::command_line::check` meets its contract: each test answers for its rule.
 use mathlib.Core.Path.{◌∙◌, refl}
 use mathlib.Core.Bool.{true}
-use borrow.Author.Rules.{rules}
 use Rattle.ultra_format.specs.Members.{size_suits, values, texts, ranges, ordered}
 use Rattle.ultra_format.specs.Plain.{written_size}
 use Rattle.ultra_format.specs.Additions.{Addition, body_given}

@@ -1,5 +1,4 @@
 -- `ultra_arguments::map::bytes_check` meets its contract: the entries that the numbers give are those in the bytes.
-use borrow.Author.Rules.{rules}
 use borrow.Author.Tests.{eq-eqb, ne_eqb}
 use Rattle.ultra_format.specs.Members.{body_check}
 use Rattle.ultra_format.specs.Additions.{given_check}

@@ -1,5 +1,4 @@
 -- `ultra_arguments::map::check` meets its contract.
-use borrow.Author.Rules.{rules}
 use borrow.Author.Tests.{eq-eqb, ne_eqb}
 use Rattle.ultra_format.specs.Members.{body_check}
 use Rattle.ultra_format.specs.Plain.{written_size}

@@ -1,7 +1,6 @@
 -- `ultra_arguments::module::check` meets its contract: each test answers for its rule.
 use mathlib.Core.Path.{◌∙◌}
 use mathlib.Core.Bool.{true}
-use borrow.Author.Rules.{rules}
 use Rattle.address_ranges.specs.Ranges.{range_fits}
 use Rattle.ultra_format.specs.Members.{module_values, member_check}
 use Rattle.ultra_arguments.proofs.module.check.Goals as goal

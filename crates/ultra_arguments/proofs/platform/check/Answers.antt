@@ -2,7 +2,6 @@
 use mathlib.Core.Path.{◌∙◌}
 use mathlib.Core.Bool.{true}
 use Rattle.ultra_format.specs.Members.{member_check, nonzero}
-use borrow.Author.Rules.{rules}
 use Rattle.ultra_arguments.proofs.platform.check.Goals as goal
 
 pub returns : goal.returns

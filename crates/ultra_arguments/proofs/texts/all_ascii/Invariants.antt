@@ -1,13 +1,8 @@
 -- `ultra_arguments::texts::all_ascii` meets its contract. The invariant: all bytes are ASCII if and only if those left are.
-use Prim.Native.Nat.{ℕ, ◌-◌, ◌≤◌, ◌<◌}
-use mathlib.Core.Path.{◌≡◌, refl, sym, ap, ◌∙◌}
-use mathlib.Core.Bool.{true, false, and-false}
-use native.Mathlib.Omega.{arith}
-use borrow.Author.Tests.{lt-ltb, le-ltb}
-use borrow.Author.Rules.{rules}
-use lib.ListN.{length, drop, drop_of_length-le}
+use Prim.Native.Nat.{◌-◌, ◌≤◌}
+use mathlib.Core.Path.{◌≡◌}
+use lib.ListN.{length, drop}
 use Rattle.ultra_format.specs.Members.{every, ascii}
-use Rattle.ultra_rules.proofs.Every.{none_left, first_fails, first_passes, next_left}
 use Rattle.ultra_arguments.proofs.texts.all_ascii.Given as goal
 
 abbrev pub invariant-loop-i : goal.invariant-loop-i

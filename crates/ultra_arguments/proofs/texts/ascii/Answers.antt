@@ -1,8 +1,6 @@
 -- `ultra_arguments::texts::ascii` meets its contract: a text is shorter than its field.
-use mathlib.Core.Path.{sym, ◌∙◌}
 use borrow.Author.Tests.{lt-ltb, le-ltb}
 use Rattle.ultra_format.specs.Members.{ascii_text}
-use borrow.Author.Rules.{rules}
 use Rattle.ultra_arguments.proofs.texts.ascii.Goals as goal
 
 pub returns-then-width-text : goal.returns-then-width-text

@@ -1,6 +1,5 @@
 -- `ultra_arguments::texts::path` meets its contract: each return from the tests that lead there.
 use Rattle.ultra_arguments.proofs.Paths.{path_long, path_empty, path_elsewhere, path_given}
-use borrow.Author.Rules.{rules}
 use Rattle.ultra_arguments.proofs.texts.path.Goals as goal
 
 pub returns-then-length-ge-PATH_WIDTH : goal.returns-then-length-ge-PATH_WIDTH

@@ -1,9 +1,7 @@
 -- `ultra_arguments::texts::trimmed_length` meets its contract. The invariant: the first n bytes give the same text as all of them.
-use Prim.Native.Nat.{◌-◌, ◌≤◌}
-use mathlib.Core.Path.{◌≡◌, refl, sym, ap, ◌∙◌}
+use mathlib.Core.Path.{sym, ap, ◌∙◌}
 use native.Mathlib.Omega.{arith}
 use borrow.Author.Rules.{rules}
-use lib.ListN.{length, take}
 use lib.Seq.{take-length}
 use Rattle.ultra_format.specs.Records.{trimmed}
 use Rattle.ultra_arguments.proofs.Trimmed.{all_zeros, zero_dropped, last_kept}

@@ -1,12 +1,8 @@
 -- `ultra_arguments::texts::trimmed_length` meets its contract. The invariant: the first n bytes give the same text as all of them.
-use Prim.Native.Nat.{◌-◌, ◌≤◌}
-use mathlib.Core.Path.{◌≡◌, refl, sym, ap, ◌∙◌}
-use native.Mathlib.Omega.{arith}
-use borrow.Author.Rules.{rules}
+use Prim.Native.Nat.{◌≤◌}
+use mathlib.Core.Path.{◌≡◌}
 use lib.ListN.{length, take}
-use lib.Seq.{take-length}
 use Rattle.ultra_format.specs.Records.{trimmed}
-use Rattle.ultra_arguments.proofs.Trimmed.{all_zeros, zero_dropped, last_kept}
 use Rattle.ultra_arguments.proofs.texts.trimmed_length.Given as goal
 
 abbrev pub invariant-loop-n : goal.invariant-loop-n

@@ -2,7 +2,6 @@
 use mathlib.Core.Path.{◌∙◌}
 use native.Mathlib.Omega.{arith}
 use Rattle.byte_layout.proofs.Copies.{bytes_whole}
-use borrow.Author.Rules.{rules}
 use Rattle.ultra_layout.proofs.kernel.guid.Goals as goal
 
 pub returns : goal.returns

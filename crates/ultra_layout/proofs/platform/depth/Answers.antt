@@ -2,7 +2,6 @@
 use native.Mathlib.Nat.{add-zero}
 use borrow.Author.Tests.{le-leb, lt-leb}
 use Rattle.words.specs.Words.{number_at}
-use borrow.Author.Rules.{rules}
 use Rattle.ultra_layout.proofs.platform.depth.Goals as goal
 
 pub returns-then-size : goal.returns-then-size

@@ -1,7 +1,6 @@
 -- `ultra_layout::platform::optional` meets its contract.
 use Prim.Native.Nat.{◌+◌}
 use borrow.Author.Tests.{le-leb, lt-leb}
-use borrow.Author.Rules.{rules}
 use Rattle.ultra_layout.proofs.platform.optional.Goals as goal
 
 pub returns-then-size-offset : goal.returns-then-size-offset

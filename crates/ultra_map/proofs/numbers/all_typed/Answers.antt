@@ -1,14 +1,10 @@
 -- `ultra_map::numbers::all_typed` meets its contract. The invariant: all entries have a type if and only if those left have.
-use Prim.Native.Nat.{◌-◌}
-use mathlib.Core.Path.{◌≡◌, refl, sym, ap, ◌∙◌}
+use mathlib.Core.Path.{refl, sym, ap, ◌∙◌}
 use mathlib.Core.Bool.{not}
 use native.Mathlib.Omega.{arith}
-use borrow.Author.Rules.{rules}
 use borrow.Author.Tests.{ne_eqb}
-use lib.ListN.{length}
-use Rattle.ultra_format.specs.Members.{nonzero, every, entry_typed}
+use Rattle.ultra_format.specs.Members.{nonzero, entry_typed}
 use Rattle.ultra_rules.proofs.Every.{none_left, first_fails, first_passes}
-use Rattle.ultra_map.specs.OnePass.{Whole, given_from}
 use Rattle.ultra_map.proofs.Triples.{no_entry_law, first_entry}
 use Rattle.ultra_map.proofs.numbers.all_typed.Goals as goal
 

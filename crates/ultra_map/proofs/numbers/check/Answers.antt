@@ -2,7 +2,6 @@
 use Prim.Native.Nat.{ℕ, ◌<◌}
 use mathlib.Core.Path.{◌∙◌}
 use native.Mathlib.Omega.{arith}
-use borrow.Author.Rules.{rules}
 use lib.ListN.{get_or}
 use Rattle.ultra_format.specs.Additions.{entries_given}
 use Rattle.ultra_map.proofs.OnePass.{in_one_pass, no_entries}

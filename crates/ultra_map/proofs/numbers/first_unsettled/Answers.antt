@@ -1,14 +1,12 @@
 -- `ultra_map::numbers::first_unsettled` meets its contract. The invariant: what is unsettled of all entries is what is unsettled of those left.
-use Prim.Native.Nat.{◌+◌, ◌-◌}
+use Prim.Native.Nat.{◌+◌}
 use mathlib.Core.Path.{refl, sym, ap, ◌∙◌}
 use mathlib.Core.Bool.{not}
 use native.Mathlib.Omega.{arith}
-use borrow.Author.Rules.{rules}
 use borrow.Author.Tests.{ne_eqb}
 use Rattle.words.proofs.Comparisons.{failed, held}
 use Rattle.ultra_format.specs.Members.{nonzero}
-use Rattle.ultra_map.specs.OnePass.{Whole, given_from, settled}
-use Rattle.ultra_map.proofs.OnePass.{Left, untyped, passes_next, is_settled, last_left}
+use Rattle.ultra_map.proofs.OnePass.{untyped, passes_next, is_settled, last_left}
 use Rattle.ultra_map.proofs.Triples.{no_entry_law, first_entry}
 use Rattle.ultra_map.proofs.numbers.first_unsettled.Goals as goal
 

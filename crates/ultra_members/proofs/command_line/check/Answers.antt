@@ -1,7 +1,6 @@
 -- `ultra_members::command_line::check` meets its contract: each test answers for its rule.
 use mathlib.Core.Path.{refl, ◌∙◌}
 use native.Mathlib.Omega.{arith}
-use borrow.Author.Rules.{rules}
 use borrow.Author.Tests.{le-leb, lt-leb}
 use Rattle.ultra_format.specs.Members.{size_suits, values, texts, ranges, ordered}
 use Rattle.ultra_rules.proofs.Judged.{misfits, judged}

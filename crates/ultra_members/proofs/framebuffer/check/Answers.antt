@@ -2,7 +2,6 @@
 use Prim.Native.Nat.{◌*◌}
 use mathlib.Core.Path.{refl, ◌∙◌}
 use native.Mathlib.Omega.{arith}
-use borrow.Author.Rules.{rules}
 use borrow.Author.Tests.{le-leb, lt-leb}
 use Rattle.address_ranges.specs.Ranges.{range_fits}
 use Rattle.ultra_format.specs.Members.{framebuffer_values, size_suits, values, texts, ranges, ordered}

@@ -1,8 +1,7 @@
 -- `ultra_members::kernel::check` meets its contract: each test answers for its rule.
-use mathlib.Core.Path.{refl, ap₂, ◌∙◌}
-use mathlib.Core.Bool.{true, ◌&&◌}
+use mathlib.Core.Path.{refl, ◌∙◌}
+use mathlib.Core.Bool.{◌&&◌}
 use native.Mathlib.Omega.{arith}
-use borrow.Author.Rules.{rules}
 use borrow.Author.Tests.{le-leb, lt-leb}
 use Rattle.address_ranges.specs.Ranges.{range_fits}
 use Rattle.ultra_format.specs.Members.{kernel_values, size_suits, values, texts, ranges, ordered}

@@ -2,7 +2,6 @@
 use Prim.Native.Nat.{◌+◌, ◌-◌, ◌*◌, ◌/◌}
 use mathlib.Core.Path.{◌≡◌, ◌∙◌, ap}
 use native.Mathlib.Omega.{arith}
-use borrow.Author.Rules.{rules}
 use Rattle.ultra_format.specs.Contexts.{Body.memory_map}
 use Rattle.ultra_format.specs.Members.{body_check}
 use Rattle.ultra_format.specs.Decoding.{entries_at}

@@ -1,7 +1,6 @@
 -- `ultra_members::module::check` meets its contract: each test answers for its rule.
 use mathlib.Core.Path.{refl, ◌∙◌}
 use native.Mathlib.Omega.{arith}
-use borrow.Author.Rules.{rules}
 use borrow.Author.Tests.{le-leb, lt-leb}
 use Rattle.address_ranges.specs.Ranges.{range_fits}
 use Rattle.ultra_format.specs.Members.{module_values, size_suits, values, texts, ranges, ordered}

@@ -1,5 +1,4 @@
 -- `ultra_records::framebuffer::read` meets its contract.
-use borrow.Author.Rules.{rules}
 use Rattle.ultra_records.proofs.framebuffer.read.Goals as goal
 
 pub returns : goal.returns

@@ -2,7 +2,6 @@
 use mathlib.Core.Path.{◌∙◌}
 use Prim.Native.Nat.{◌+◌}
 use Rattle.byte_layout.proofs.Copies.{text_padded}
-use borrow.Author.Rules.{rules}
 use Rattle.ultra_records.proofs.kernel.read.Goals as goal
 
 pub returns : goal.returns

@@ -2,7 +2,6 @@
 use mathlib.Core.Path.{◌∙◌}
 use mathlib.Core.Bool.{true}
 use native.Mathlib.Omega.{arith}
-use borrow.Author.Rules.{rules}
 use Rattle.ultra_format.specs.Members.{member_check}
 use Rattle.ultra_rules.proofs.Products.{below}
 use Rattle.ultra_rules.proofs.framebuffer.check.Goals as goal

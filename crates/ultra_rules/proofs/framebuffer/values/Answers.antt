@@ -1,6 +1,5 @@
 -- `ultra_rules::framebuffer::values` meets its contract: the products are formed in 64 bits, which hold them.
 use native.Mathlib.Omega.{arith}
-use borrow.Author.Rules.{rules}
 use Rattle.ultra_format.specs.Members.{framebuffer_values}
 use Rattle.words.proofs.Comparisons.{failed, held}
 use Rattle.ultra_rules.proofs.Products.{below}

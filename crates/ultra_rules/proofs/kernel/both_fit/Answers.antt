@@ -1,5 +1,4 @@
 -- `ultra_rules::kernel::both_fit` meets its contract: each return from the tests that lead there.
-use borrow.Author.Rules.{rules}
 use Rattle.words.proofs.Comparisons.{failed, held}
 use Rattle.ultra_rules.proofs.kernel.both_fit.Goals as goal
 

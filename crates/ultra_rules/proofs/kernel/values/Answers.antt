@@ -1,5 +1,4 @@
 -- `ultra_rules::kernel::values` meets its contract: each return from the tests that lead there.
-use borrow.Author.Rules.{rules}
 use borrow.Author.Tests.{eq-eqb, ne_eqb}
 use Rattle.ultra_format.specs.Members.{kernel_values}
 use Rattle.words.proofs.Comparisons.{failed, held}

@@ -1,7 +1,6 @@
 -- `ultra_rules::module::check` meets its contract: each test answers for its rule.
 use mathlib.Core.Path.{◌∙◌}
 use mathlib.Core.Bool.{true}
-use borrow.Author.Rules.{rules}
 use Rattle.ultra_format.specs.Members.{member_check}
 use Rattle.ultra_rules.proofs.module.check.Goals as goal
 

@@ -1,11 +1,8 @@
 -- `ultra_rules::texts::ascii` meets its contract. The invariant: the whole text is as the rule says if and only if the rest is.
-use Prim.Native.Nat.{◌+◌, ◌-◌, ◌≤◌}
-use mathlib.Core.Path.{◌≡◌, sym, ◌∙◌}
+use mathlib.Core.Path.{sym, ◌∙◌}
 use native.Mathlib.Omega.{arith}
 use native.Mathlib.Nat.{sub-zero, add-zero}
 use borrow.Author.Rules.{rules}
-use Rattle.byte_layout.specs.Stored.{text_at}
-use Rattle.ultra_format.specs.Members.{ascii_text}
 use Rattle.ultra_rules.proofs.Letters.{rest_closed, rest_letter, rest_bad, rest_open}
 use Rattle.ultra_rules.proofs.texts.ascii.Goals as goal
 

@@ -1,5 +1,4 @@
 -- `ultra_rules::texts::path` meets its contract: a text begins with its field's first byte, and none of its bytes is zero.
-use borrow.Author.Rules.{rules}
 use Rattle.ultra_rules.proofs.Letters.{path_stop, path_rest}
 use Rattle.ultra_rules.proofs.texts.path.Goals as goal
 

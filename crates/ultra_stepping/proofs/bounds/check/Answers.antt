@@ -1,7 +1,6 @@
 -- `ultra_stepping::bounds::check` meets its contract: one law a return.
 use native.Mathlib.Omega.{arith}
 use Rattle.ultra_stepping.proofs.BoundsLaws.{stop_header, stop_least, stop_eights, stop_overrun, stop_type, bounds_pass}
-use borrow.Author.Rules.{rules}
 use Rattle.ultra_stepping.proofs.bounds.check.Goals as goal
 
 pub returns-then-room-at : goal.returns-then-room-at

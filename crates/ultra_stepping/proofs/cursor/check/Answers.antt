@@ -4,7 +4,6 @@ use mathlib.Core.Path.{ap, ◌∙◌}
 use Rattle.ultra_stepping.specs.Checks.{bounds_check}
 use native.Mathlib.Omega.{arith}
 use Rattle.ultra_stepping.proofs.StepLaws.{stop_low, stop_crooked, only_bounds}
-use borrow.Author.Rules.{rules}
 use Rattle.ultra_stepping.proofs.cursor.check.Goals as goal
 
 pub returns-then-offset-lt8 : goal.returns-then-offset-lt8

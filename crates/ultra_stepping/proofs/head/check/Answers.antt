@@ -1,7 +1,6 @@
 -- `ultra_stepping::head::check` meets its contract: one law a return.
 use native.Mathlib.Omega.{arith}
 use Rattle.ultra_stepping.proofs.HeadLaws.{stop_short, stop_version, stop_count, stop_missing, head_passes}
-use borrow.Author.Rules.{rules}
 use Rattle.ultra_stepping.proofs.head.check.Goals as goal
 
 pub returns-then-room-lt8 : goal.returns-then-room-lt8

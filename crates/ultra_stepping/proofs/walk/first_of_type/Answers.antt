@@ -1,13 +1,11 @@
 -- `ultra_stepping::walk::first_of_type` meets its contract. The invariant: `at` is where attribute `i` starts, and the search from there
 -- on finds what the whole search finds.
-use Prim.Native.Nat.{◌-◌, ◌≤◌}
 use mathlib.Core.Path.{◌≡◌, sym, ◌∙◌}
 use native.Mathlib.Omega.{arith}
 use native.Mathlib.Nat.{sub-zero}
 use borrow.Author.Rules.{rules}
 use lib.ListN.{length}
-use Rattle.ultra_format.specs.Decoding.{start, stored_type}
-use Rattle.ultra_stepping.specs.Walking.{first_of_type}
+use Rattle.ultra_format.specs.Decoding.{stored_type}
 use Rattle.ultra_stepping.proofs.WalkLaws.{start_first, Reached, reached, first_here, first_next, first_none}
 use Rattle.ultra_stepping.proofs.walk.first_of_type.Goals as goal
 use Rattle.ultra_stepping.proofs.walk.first_of_type.Goals.{After-load_u32, In-loop-i}
@@ -20,7 +18,7 @@ here c = reached _ _ c.loop-i.i _ c.loop-i.invariant.0 (c.requires c.loop-i.i c.
 kind : (c : After-load_u32) → c.load_u32.result ≡ stored_type c.args.buf.now c.loop-i.i
 kind c =
     let here' : (let b = c.args.buf.now in Reached b (length b) c.loop-i.i c.loop-i.at) =
-        reached _ _ c.loop-i.i _ c.loop-i.invariant.0 (c.requires c.loop-i.i c.loop-i-test.true) in
+    reached _ _ c.loop-i.i _ c.loop-i.invariant.0 (c.requires c.loop-i.i c.loop-i-test.true) in
     c.load_u32.ensures ∙ here'.type_is
 
 pub loop-i-init : goal.loop-i-init

@@ -1,14 +1,9 @@
 -- `ultra_stepping::walk::first_of_type` meets its contract. The invariant: `at` is where attribute `i` starts, and the search from there
 -- on finds what the whole search finds.
 use Prim.Native.Nat.{◌-◌, ◌≤◌}
-use mathlib.Core.Path.{◌≡◌, sym, ◌∙◌}
-use native.Mathlib.Omega.{arith}
-use native.Mathlib.Nat.{sub-zero}
-use borrow.Author.Rules.{rules}
-use lib.ListN.{length}
-use Rattle.ultra_format.specs.Decoding.{start, stored_type}
+use mathlib.Core.Path.{◌≡◌}
+use Rattle.ultra_format.specs.Decoding.{start}
 use Rattle.ultra_stepping.specs.Walking.{first_of_type}
-use Rattle.ultra_stepping.proofs.WalkLaws.{start_first, Reached, reached, first_here, first_next, first_none}
 use Rattle.ultra_stepping.proofs.walk.first_of_type.Given as goal
 
 abbrev pub invariant-loop-i : goal.invariant-loop-i

@@ -1,5 +1,4 @@
 -- `ultra_stepping::walk::start_of` meets its contract. The invariant: `at` is where attribute `i` starts.
-use Prim.Native.Nat.{◌-◌, ◌≤◌}
 use mathlib.Core.Path.{◌≡◌, ap, ◌∙◌}
 use native.Mathlib.Omega.{arith}
 use borrow.Author.Rules.{rules}

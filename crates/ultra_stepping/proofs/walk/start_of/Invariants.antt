@@ -1,11 +1,7 @@
 -- `ultra_stepping::walk::start_of` meets its contract. The invariant: `at` is where attribute `i` starts.
 use Prim.Native.Nat.{◌-◌, ◌≤◌}
-use mathlib.Core.Path.{◌≡◌, ap, ◌∙◌}
-use native.Mathlib.Omega.{arith}
-use borrow.Author.Rules.{rules}
-use lib.ListN.{length}
+use mathlib.Core.Path.{◌≡◌}
 use Rattle.ultra_format.specs.Decoding.{start}
-use Rattle.ultra_stepping.proofs.WalkLaws.{start_first, Reached, reached}
 use Rattle.ultra_stepping.proofs.walk.start_of.Given as goal
 
 abbrev pub invariant-loop-i : goal.invariant-loop-i

@@ -1,6 +1,5 @@
 -- `command_line::size` meets its contract.
 use mathlib.Core.Path.{sym}
-use borrow.Author.Rules.{rules}
 use Rattle.ultra_writing.proofs.Line.{line_size_law}
 use Rattle.ultra_writing.proofs.command_line.size.Goals as goal
 

@@ -7,7 +7,6 @@ use Rattle.ultra_format.specs.Plain.{written_size}
 use Rattle.ultra_format.specs.Additions.{body_given}
 use Rattle.ultra_writing.specs.Leading.{header_fields}
 use Rattle.ultra_writing.proofs.Line.{line_size_law}
-use borrow.Author.Rules.{rules}
 use Rattle.ultra_writing.proofs.command_line.write.Goals as goal
 
 pub header-requires : goal.header-requires

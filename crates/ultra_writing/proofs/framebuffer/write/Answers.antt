@@ -3,7 +3,6 @@ use Rattle.byte_layout.specs.Fields.{width, Field.number}
 use Rattle.byte_layout.proofs.Written.{begun, next, no_padding}
 use Rattle.ultra_format.specs.Plain.{written_size}
 use Rattle.ultra_format.specs.Additions.{body_given}
-use borrow.Author.Rules.{rules}
 use Rattle.ultra_writing.specs.Leading.{header_fields}
 use Rattle.ultra_writing.proofs.framebuffer.write.Goals as goal
 

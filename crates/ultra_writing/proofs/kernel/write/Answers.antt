@@ -3,7 +3,6 @@ use Rattle.byte_layout.specs.Fields.{width, Field.number, Field.raw, Field.text}
 use Rattle.byte_layout.proofs.Written.{begun, next, no_padding}
 use Rattle.ultra_format.specs.Plain.{written_size}
 use Rattle.ultra_writing.specs.Leading.{kernel_leading}
-use borrow.Author.Rules.{rules}
 use Rattle.ultra_writing.proofs.kernel.write.Goals as goal
 
 pub returns : goal.returns

@@ -1,6 +1,5 @@
 -- `map::size` meets its contract: three numbers are an entry.
 use mathlib.Core.Path.{sym}
-use borrow.Author.Rules.{rules}
 use Rattle.ultra_writing.proofs.Entries.{map_size_law}
 use Rattle.ultra_writing.proofs.map.size.Goals as goal
 

@@ -1,17 +1,16 @@
 -- `map::write` meets its contract: after i turns the first i numbers are fields after the header.
-use Prim.Native.Nat.{◌+◌, ◌-◌, ◌*◌, ◌≤◌}
 use mathlib.Core.Path.{◌≡◌, refl}
-use mathlib.Core.List.{List, [], ◌∷◌}
+use mathlib.Core.List.{[], ◌∷◌}
 use native.Mathlib.Omega.{arith}
 use borrow.Author.Rules.{rules}
-use lib.ListN.{length, take}
+use lib.ListN.{length}
 use lib.Seq.{take-length}
 use Rattle.byte_layout.specs.Fields.{width, Field.number}
-use Rattle.byte_layout.proofs.Written.{Front, begun}
+use Rattle.byte_layout.proofs.Written.{begun}
 use Rattle.ultra_format.specs.Plain.{written_size}
 use Rattle.ultra_format.specs.Additions.{body_given}
 use Rattle.ultra_writing.specs.Leading.{header_fields}
-use Rattle.ultra_writing.proofs.Entries.{numbers_fields, entries_numbers, map_size_law, number_more}
+use Rattle.ultra_writing.proofs.Entries.{entries_numbers, map_size_law, number_more}
 use Rattle.ultra_writing.proofs.map.write.Goals as goal
 
 pub header-requires : goal.header-requires

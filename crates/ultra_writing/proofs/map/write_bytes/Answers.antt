@@ -6,7 +6,6 @@ use Rattle.byte_layout.specs.Fields.{width}
 use Rattle.byte_layout.proofs.Written.{begun}
 use Rattle.ultra_writing.specs.Leading.{header_fields}
 use Rattle.ultra_writing.proofs.Entries.{bytes_stored}
-use borrow.Author.Rules.{rules}
 use Rattle.ultra_writing.proofs.map.write_bytes.Goals as goal
 
 pub returns : goal.returns

@@ -2,7 +2,6 @@
 use Rattle.byte_layout.specs.Fields.{width, Field.number, Field.text}
 use Rattle.byte_layout.proofs.Written.{begun, next}
 use Rattle.ultra_writing.specs.Leading.{header_fields}
-use borrow.Author.Rules.{rules}
 use Rattle.ultra_writing.proofs.platform.leading.Goals as goal
 
 pub returns : goal.returns

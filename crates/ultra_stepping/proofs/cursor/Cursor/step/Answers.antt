@@ -10,7 +10,6 @@ use Rattle.ultra_stepping.specs.Checks.{head_check}
 use Rattle.ultra_stepping.proofs.HeadLaws.{head_holds}
 use Rattle.ultra_stepping.proofs.BoundsLaws.{BoundsHold}
 use Rattle.ultra_stepping.proofs.StepLaws.{cursor_bounds, step_head, step_end, step_check, step_next}
-use borrow.Author.Rules.{rules}
 use Rattle.ultra_stepping.proofs.cursor.Cursor.step.Goals as goal
 use Rattle.ultra_stepping.proofs.cursor.Cursor.step.Goals.{Else-head-ne0, Else-number-ne0}
 
