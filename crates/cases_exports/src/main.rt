@@ -30,10 +30,8 @@ fn attribute(buf: &mut [u8], at: usize, kind: u64) -> usize {
 // Those that the row has from its fourth number on.
 fn each(buf: &mut [u8], first: usize, values: &[u64; 24]) {
     let mut at = first;
-    let mut i = 3;
-    while i < 24 {
+    for i in 3..24 {
         at = attribute(buf, at, values[i]);
-        i += 1;
     }
 }
 

@@ -82,12 +82,10 @@ fn record(rt: &impl Print, payload: &[u8], index: u64) -> io::Result<bool> {
 
 // The first `most` records.
 fn records(rt: &impl Print, payload: &[u8], most: u64) -> io::Result<()> {
-    let mut i = 0;
-    while i < most {
+    for i in 0..most {
         if !record(rt, payload, i)? {
             return Ok(());
         }
-        i += 1;
     }
     Ok(())
 }

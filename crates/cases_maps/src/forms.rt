@@ -28,10 +28,8 @@ fn front(buf: &mut [u8], count: u64, size: u64) {
 fn body(buf: &mut [u8], numbers: &[u64])
     requires { 440 + 8 * length numbers.now ≤ length buf.old }
 {
-    let mut i = 0;
-    while i < numbers.len() {
+    for i in 0..numbers.len() {
         words::store_u64(buf, 440 + 8 * i, numbers[i]);
-        i += 1;
     }
 }
 

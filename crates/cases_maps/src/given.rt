@@ -43,10 +43,8 @@ fn sound_number(index: usize) -> u64
 
 fn sound() -> [u64; 16384] {
     let mut numbers = [0u64; 16384];
-    let mut i = 0;
-    while i < 16384 {
+    for i in 0..16384 {
         numbers[i] = sound_number(i);
-        i += 1;
     }
     numbers
 }

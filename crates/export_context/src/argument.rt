@@ -35,13 +35,11 @@ fn number(digits: &[u8]) -> Load {
         return Load::None;
     }
     let mut n = 0;
-    let mut i = 0;
-    while i < digits.len() {
-        match with_digit(n, digits[i]) {
+    for digit in digits {
+        match with_digit(n, *digit) {
             Load::Address(more) => n = more,
             Load::None => return Load::None,
         }
-        i += 1;
     }
     Load::Address(n)
 }
