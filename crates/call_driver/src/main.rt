@@ -4,10 +4,19 @@
 
 mod stream;
 
-fn main() {
+use std::io;
+
+fn main(rt: HostRuntime) -> io::Result<()> {
     let mut frame = [0u8; 1048576];
     let mut buffer = [0u8; 131072];
     let mut numbers = [0u64; 9000];
     let mut out = [0u8; 1310720];
-    stream::serve_in(&mut frame, &mut buffer, &mut numbers, &mut out);
+    stream::serve_in(
+        &mut rt.stdin(),
+        &mut rt.stdout(),
+        &mut frame,
+        &mut buffer,
+        &mut numbers,
+        &mut out,
+    )
 }

@@ -2,6 +2,7 @@
 use crate::{Kind, cases};
 use cases_adds::context;
 use cases_text::table::Values;
+use std::io;
 use ultra_format::FramebufferRecord;
 
 fn record(given: [u64; 6]) -> FramebufferRecord {
@@ -16,15 +17,16 @@ fn record(given: [u64; 6]) -> FramebufferRecord {
 }
 
 // Its width, height, pitch, bpp, format and address.
-pub fn members(label: &[u8], values: Values) {
+pub fn members(rt: &impl Print, label: &[u8], values: Values) -> io::Result<()> {
     let given = values.numbers;
     let record = record(given);
     let buf = context::kernel();
-    cases_adds::framebuffer(label, buf, record);
+    cases_adds::framebuffer(rt, label, buf, record)
 }
 
-fn pixels() {
+fn pixels(rt: &impl Print) -> io::Result<()> {
     cases(
+        rt,
         Kind::Framebuffer,
         b"\
         framebuffer: 1024 768 4100 32 3 3489660928\n\
@@ -39,12 +41,13 @@ fn pixels() {
         framebuffer of format 4, 32 bits: 1024 768 4100 32 4 3489660928\n\
         framebuffer of format 5, 24 bits: 1024 768 4100 24 5 3489660928\n\
         framebuffer of format 5, 32 bits: 1024 768 4100 32 5 3489660928\n",
-    );
+    )
 }
 
 // In the last, two rules are broken; the lower number is given.
-fn rows_and_ends() {
+fn rows_and_ends(rt: &impl Print) -> io::Result<()> {
     cases(
+        rt,
         Kind::Framebuffer,
         b"\
         framebuffer of width 3, 24 bits, pitch 9: 3 768 9 24 1 3489660928\n\
@@ -58,10 +61,10 @@ fn rows_and_ends() {
         framebuffer, greatest pitch and height at 2^33 - 1: 1024 4294967295 4294967295 32 3 8589934591\n\
         framebuffer, greatest pitch and height at 2^33: 1024 4294967295 4294967295 32 3 8589934592\n\
         framebuffer of format 0, end above 2^64: 1024 768 4100 32 0 18446744073709551615\n",
-    );
+    )
 }
 
-pub fn all() {
-    pixels();
-    rows_and_ends();
+pub fn all(rt: &impl Print) -> io::Result<()> {
+    pixels(rt)?;
+    rows_and_ends(rt)
 }

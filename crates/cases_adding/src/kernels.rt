@@ -3,15 +3,16 @@ use crate::{Kind, cases};
 use cases_adds::context;
 use cases_shared::given;
 use cases_text::table::Values;
+use std::io;
 use ultra_format::KernelRecord;
 
-fn kernel(label: &[u8], record: KernelRecord) {
+fn kernel(rt: &impl Print, label: &[u8], record: KernelRecord) -> io::Result<()> {
     let buf = context::platform();
-    cases_adds::kernel(label, buf, record);
+    cases_adds::kernel(rt, label, buf, record)
 }
 
 // Its physical and virtual base, size and partition type; and 1 for a path of 0 bytes.
-pub fn members(label: &[u8], values: Values) {
+pub fn members(rt: &impl Print, label: &[u8], values: Values) -> io::Result<()> {
     let given = values.numbers;
     let mut record = given::kernel();
     record.physical_base = given[0];
@@ -21,11 +22,12 @@ pub fn members(label: &[u8], values: Values) {
     if given[4] == 1 {
         record.path = [0u8; 256];
     }
-    kernel(label, record);
+    kernel(rt, label, record)
 }
 
-fn places() {
+fn places(rt: &impl Print) -> io::Result<()> {
     cases(
+        rt,
         Kind::Kernel,
         b"\
         kernel: 2097152 18446744071564165120 65536 2\n\
@@ -43,48 +45,50 @@ fn places() {
         kernel, physical end a page above 2^64: 18446744073709547520 4096 8192 8\n\
         kernel, virtual end at 2^64: 4096 18446744073709547520 4096 8\n\
         kernel, virtual end a page above 2^64: 4096 18446744073709547520 8192 8\n",
-    );
+    )
 }
 
-fn full_path(label: &[u8], path: [u8; 256]) {
+fn full_path(rt: &impl Print, label: &[u8], path: [u8; 256]) -> io::Result<()> {
     let mut record = given::kernel();
     record.path = path;
-    kernel(label, record);
+    kernel(rt, label, record)
 }
 
-pub fn from(label: &[u8], text: &[u8]) {
+pub fn from(rt: &impl Print, label: &[u8], text: &[u8]) -> io::Result<()> {
     let path = given::path(text);
-    full_path(label, path);
+    full_path(rt, label, path)
 }
 
-fn paths() {
-    cases(Kind::KernelPath, b"kernel, path of 1 byte: /\n");
+fn paths(rt: &impl Print) -> io::Result<()> {
+    cases(rt, Kind::KernelPath, b"kernel, path of 1 byte: /\n")?;
     let mut path = [b'/'; 256];
     path[255] = 0;
-    full_path(b"kernel, path of 255 bytes", path);
-    full_path(b"kernel, path of 256 bytes", [b'/'; 256]);
+    full_path(rt, b"kernel, path of 255 bytes", path)?;
+    full_path(rt, b"kernel, path of 256 bytes", [b'/'; 256])?;
     cases(
+        rt,
         Kind::KernelPath,
         b"\
         kernel, path of 0 bytes: \n\
         kernel, path without its slash: boot/k\n\
         kernel, path with a zero inside: /boot\0k\n\
         kernel, path with bytes 128 and 255: /b\x80\xff/k\n",
-    );
+    )
 }
 
 // Two rules are broken; the lower number is given.
-fn two_rules() {
+fn two_rules(rt: &impl Print) -> io::Result<()> {
     cases(
+        rt,
         Kind::Kernel,
         b"\
         kernel at physical 4095, path of 0 bytes: 4095 18446744071564165120 65536 8 1\n\
         kernel, path of 0 bytes, end above 2^64: 18446744073709547520 18446744071564165120 65536 8 1\n",
-    );
+    )
 }
 
-pub fn all() {
-    places();
-    paths();
-    two_rules();
+pub fn all(rt: &impl Print) -> io::Result<()> {
+    places(rt)?;
+    paths(rt)?;
+    two_rules(rt)
 }

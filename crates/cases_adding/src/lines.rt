@@ -1,14 +1,16 @@
 // The command line, added after a platform and a kernel.
 use crate::{Kind, cases};
 use cases_adds::context;
+use std::io;
 
-pub fn command_line(label: &[u8], text: &[u8]) {
+pub fn command_line(rt: &impl Print, label: &[u8], text: &[u8]) -> io::Result<()> {
     let buf = context::kernel();
-    cases_adds::command_line(label, buf, text);
+    cases_adds::command_line(rt, label, buf, text)
 }
 
-pub fn all() {
+pub fn all(rt: &impl Print) -> io::Result<()> {
     cases(
+        rt,
         Kind::Line,
         b"\
         line of 0 bytes: \n\
@@ -22,5 +24,5 @@ pub fn all() {
         line of bytes 1 and 127: \x01\x7f\n\
         line with byte 128: quiet\x80\n\
         line with byte 255: \xffquiet\n",
-    );
+    )
 }

@@ -10,6 +10,7 @@ mod modules;
 mod platforms;
 
 use cases_text::table;
+use std::io;
 
 // What a table's rows are given.
 #[derive(Clone, Copy)]
@@ -26,37 +27,38 @@ enum Kind {
     Framebuffer,
 }
 
-fn case(kind: Kind, row: &[u8]) {
+fn case(rt: &impl Print, kind: Kind, row: &[u8]) -> io::Result<()> {
     let label = table::label(row);
     let text = table::given(row);
     match kind {
-        Kind::Map => maps::map(label, table::numbers(row)),
-        Kind::Line => lines::command_line(label, text),
-        Kind::PlatformType => platforms::typed(label, table::numbers(row)),
-        Kind::Platform => platforms::members(label, table::numbers(row)),
-        Kind::PlatformName => platforms::named(label, text),
-        Kind::Kernel => kernels::members(label, table::numbers(row)),
-        Kind::KernelPath => kernels::from(label, text),
-        Kind::Module => modules::members(label, table::numbers(row)),
-        Kind::ModuleName => modules::named(label, text),
-        Kind::Framebuffer => framebuffers::members(label, table::numbers(row)),
+        Kind::Map => maps::map(rt, label, table::numbers(row)),
+        Kind::Line => lines::command_line(rt, label, text),
+        Kind::PlatformType => platforms::typed(rt, label, table::numbers(row)),
+        Kind::Platform => platforms::members(rt, label, table::numbers(row)),
+        Kind::PlatformName => platforms::named(rt, label, text),
+        Kind::Kernel => kernels::members(rt, label, table::numbers(row)),
+        Kind::KernelPath => kernels::from(rt, label, text),
+        Kind::Module => modules::members(rt, label, table::numbers(row)),
+        Kind::ModuleName => modules::named(rt, label, text),
+        Kind::Framebuffer => framebuffers::members(rt, label, table::numbers(row)),
     }
 }
 
-fn cases(kind: Kind, table: &[u8]) {
+fn cases(rt: &impl Print, kind: Kind, table: &[u8]) -> io::Result<()> {
     let mut at = 0;
     while at < table.len() {
         let end = table::end(table, at);
-        case(kind, &table[at..end]);
+        case(rt, kind, &table[at..end])?;
         at = end;
     }
+    Ok(())
 }
 
-fn main() {
-    maps::all();
-    lines::all();
-    platforms::all();
-    kernels::all();
-    modules::all();
-    framebuffers::all();
+fn main(rt: HostRuntime) -> io::Result<()> {
+    maps::all(&rt)?;
+    lines::all(&rt)?;
+    platforms::all(&rt)?;
+    kernels::all(&rt)?;
+    modules::all(&rt)?;
+    framebuffers::all(&rt)
 }

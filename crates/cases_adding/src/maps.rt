@@ -2,22 +2,25 @@
 use crate::{Kind, cases};
 use cases_adds::context;
 use cases_text::table::Values;
+use std::io;
 
-fn first(label: &[u8], numbers: &[u64], count: usize) {
+fn first(rt: &impl Print, label: &[u8], numbers: &[u64], count: usize) -> io::Result<()> {
     if count <= numbers.len() {
         let buf = context::kernel();
-        cases_adds::map(label, buf, &numbers[0..count]);
+        cases_adds::map(rt, label, buf, &numbers[0..count])?;
     }
+    Ok(())
 }
 
 // The numbers of its entries: address, size and type of each.
-pub fn map(label: &[u8], values: Values) {
+pub fn map(rt: &impl Print, label: &[u8], values: Values) -> io::Result<()> {
     let numbers = values.numbers;
-    first(label, &numbers, values.count);
+    first(rt, label, &numbers, values.count)
 }
 
-fn order_and_range() {
+fn order_and_range(rt: &impl Print) -> io::Result<()> {
     cases(
+        rt,
         Kind::Map,
         b"\
         map (0, 4096), (4096, 1): 0 4096 1 4096 1 1\n\
@@ -30,12 +33,13 @@ fn order_and_range() {
         map, 4097 bytes at 2^64 - 4096: 18446744073709547520 4097 1\n\
         map, 2^64 - 1 bytes at 1: 1 18446744073709551615 1\n\
         map, 2^64 - 1 bytes at 2: 2 18446744073709551615 1\n",
-    );
+    )
 }
 
 // In the last three, all entries are tried for a rule before the next rule.
-fn value_and_form() {
+fn value_and_form(rt: &impl Print) -> io::Result<()> {
     cases(
+        rt,
         Kind::Map,
         b"\
         map of type 0: 4096 4096 0\n\
@@ -49,10 +53,10 @@ fn value_and_form() {
         map, wrong order, then type 0: 0 4097 1 4096 1 0\n\
         map, wrong order, then an end above 2^64: 0 4097 1 4096 18446744073709551615 1\n\
         map, end above 2^64, then type 0: 18446744073709547520 4097 1 0 0 0\n",
-    );
+    )
 }
 
-pub fn all() {
-    order_and_range();
-    value_and_form();
+pub fn all(rt: &impl Print) -> io::Result<()> {
+    order_and_range(rt)?;
+    value_and_form(rt)
 }

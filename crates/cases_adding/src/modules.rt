@@ -3,15 +3,16 @@ use crate::{Kind, cases};
 use cases_adds::context;
 use cases_shared::given;
 use cases_text::table::Values;
+use std::io;
 use ultra_format::ModuleRecord;
 
-fn module(label: &[u8], record: ModuleRecord) {
+fn module(rt: &impl Print, label: &[u8], record: ModuleRecord) -> io::Result<()> {
     let buf = context::kernel();
-    cases_adds::module(label, buf, record);
+    cases_adds::module(rt, label, buf, record)
 }
 
 // Its type, address and size; and 1 for a name of bytes 128.
-pub fn members(label: &[u8], values: Values) {
+pub fn members(rt: &impl Print, label: &[u8], values: Values) -> io::Result<()> {
     let given = values.numbers;
     let mut record = given::module();
     record.kind = (given[0] % 4294967296) as u32;
@@ -20,11 +21,12 @@ pub fn members(label: &[u8], values: Values) {
     if given[3] == 1 {
         record.name = [128u8; 64];
     }
-    module(label, record);
+    module(rt, label, record)
 }
 
-fn places() {
+fn places(rt: &impl Print) -> io::Result<()> {
     cases(
+        rt,
         Kind::Module,
         b"\
         module: 1 16777216 123457\n\
@@ -37,18 +39,19 @@ fn places() {
         module of 0 bytes at 0: 1 0 0\n\
         module, end at 2^64: 1 18446744073709547520 4096\n\
         module, end above 2^64: 1 18446744073709547520 4097\n",
-    );
+    )
 }
 
-pub fn named(label: &[u8], text: &[u8]) {
+pub fn named(rt: &impl Print, label: &[u8], text: &[u8]) -> io::Result<()> {
     let mut record = given::module();
     let name = given::module_name(text);
     record.name = name;
-    module(label, record);
+    module(rt, label, record)
 }
 
-fn names() {
+fn names(rt: &impl Print) -> io::Result<()> {
     cases(
+        rt,
         Kind::ModuleName,
         b"\
         module, name of 0 bytes: \n\
@@ -57,21 +60,22 @@ fn names() {
         module, name with a zero inside: ini\0rd\n\
         module, name with byte 127: initrd\x7f\n\
         module, name with byte 128: initrd\x80\n",
-    );
+    )
 }
 
 // Two rules are broken; the lower number is given.
-fn two_rules() {
+fn two_rules(rt: &impl Print) -> io::Result<()> {
     cases(
+        rt,
         Kind::Module,
         b"\
         module of type 0, bad name: 0 16777216 123457 1\n\
         module, bad name, end above 2^64: 1 16777216 18446744073709551615 1\n",
-    );
+    )
 }
 
-pub fn all() {
-    places();
-    names();
-    two_rules();
+pub fn all(rt: &impl Print) -> io::Result<()> {
+    places(rt)?;
+    names(rt)?;
+    two_rules(rt)
 }

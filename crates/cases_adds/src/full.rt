@@ -3,10 +3,8 @@ use cases_shared::given;
 
 // Type 7 and size 8, 1,021 times.
 fn sevens(buf: &mut [u8; 8704]) {
-    let mut i = 0;
-    while i < 1021 {
+    for i in 0..1021 {
         words::store_u64(buf, 432 + 8 * i, 34359738375);
-        i += 1;
     }
 }
 

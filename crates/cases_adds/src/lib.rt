@@ -8,51 +8,77 @@ pub mod full;
 use cases_shared::show;
 use cases_text::print;
 use refusals::Answer;
+use std::io;
 use ultra_format::{FramebufferRecord, KernelRecord, ModuleRecord, PlatformRecord};
 
-pub fn line(label: &[u8], answer: Answer, changed: usize) {
-    print::words(label);
-    show::answer(answer);
-    print::number(b", bytes changed ", changed as u64);
-    print::words(b"\n");
+pub fn line(rt: &impl Print, label: &[u8], answer: Answer, changed: usize) -> io::Result<()> {
+    print::words(rt, label)?;
+    show::answer(rt, answer)?;
+    print::number(rt, b", bytes changed ", changed as u64)?;
+    print::words(rt, b"\n")
 }
 
 pub fn changed(before: &[u8; 1024], after: &[u8; 1024]) -> usize {
     print::differences(before, after)
 }
 
-pub fn platform(label: &[u8], before: [u8; 1024], record: PlatformRecord) {
+pub fn platform(
+    rt: &impl Print,
+    label: &[u8],
+    before: [u8; 1024],
+    record: PlatformRecord,
+) -> io::Result<()> {
     let mut after = before;
     let answer = ultra_building::add_platform(&mut after, record);
-    line(label, answer, changed(&before, &after));
+    line(rt, label, answer, changed(&before, &after))
 }
 
-pub fn kernel(label: &[u8], before: [u8; 1024], record: KernelRecord) {
+pub fn kernel(
+    rt: &impl Print,
+    label: &[u8],
+    before: [u8; 1024],
+    record: KernelRecord,
+) -> io::Result<()> {
     let mut after = before;
     let answer = ultra_building::add_kernel(&mut after, record);
-    line(label, answer, changed(&before, &after));
+    line(rt, label, answer, changed(&before, &after))
 }
 
-pub fn map(label: &[u8], before: [u8; 1024], numbers: &[u64]) {
+pub fn map(rt: &impl Print, label: &[u8], before: [u8; 1024], numbers: &[u64]) -> io::Result<()> {
     let mut after = before;
     let answer = ultra_building::add_map(&mut after, numbers);
-    line(label, answer, changed(&before, &after));
+    line(rt, label, answer, changed(&before, &after))
 }
 
-pub fn module(label: &[u8], before: [u8; 1024], record: ModuleRecord) {
+pub fn module(
+    rt: &impl Print,
+    label: &[u8],
+    before: [u8; 1024],
+    record: ModuleRecord,
+) -> io::Result<()> {
     let mut after = before;
     let answer = ultra_building::add_module(&mut after, record);
-    line(label, answer, changed(&before, &after));
+    line(rt, label, answer, changed(&before, &after))
 }
 
-pub fn command_line(label: &[u8], before: [u8; 1024], text: &[u8]) {
+pub fn command_line(
+    rt: &impl Print,
+    label: &[u8],
+    before: [u8; 1024],
+    text: &[u8],
+) -> io::Result<()> {
     let mut after = before;
     let answer = ultra_building::add_command_line(&mut after, text);
-    line(label, answer, changed(&before, &after));
+    line(rt, label, answer, changed(&before, &after))
 }
 
-pub fn framebuffer(label: &[u8], before: [u8; 1024], record: FramebufferRecord) {
+pub fn framebuffer(
+    rt: &impl Print,
+    label: &[u8],
+    before: [u8; 1024],
+    record: FramebufferRecord,
+) -> io::Result<()> {
     let mut after = before;
     let answer = ultra_building::add_framebuffer(&mut after, record);
-    line(label, answer, changed(&before, &after));
+    line(rt, label, answer, changed(&before, &after))
 }

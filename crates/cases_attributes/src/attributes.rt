@@ -5,53 +5,54 @@ use cases_shared::{members, show};
 use cases_text::print;
 use lent_buffers::Part;
 use refusals::Answer;
+use std::io;
 use ultra_questions::AttributeAnswer;
 
 // A map's or a command line's part; of other types that there is none, wherever it would lie.
-fn part(kind: u32, part: Part, bytes: &[u8]) {
+fn part(rt: &impl Print, kind: u32, part: Part, bytes: &[u8]) -> io::Result<()> {
     if kind == 3 || kind == 5 {
-        print::number(b"  part at ", part.start as u64);
-        print::number(b" length ", part.length as u64);
+        print::number(rt, b"  part at ", part.start as u64)?;
+        print::number(rt, b" length ", part.length as u64)?;
     } else {
-        print::number(b"  part length ", part.length as u64);
+        print::number(rt, b"  part length ", part.length as u64)?;
     }
-    print::number(b", bytes handed back ", bytes.len() as u64);
+    print::number(rt, b", bytes handed back ", bytes.len() as u64)?;
     if kind == 3 {
-        print::bytes(bytes);
+        print::bytes(rt, bytes)?;
     }
     if kind == 5 {
-        print::words(b" \"");
-        print::words(bytes);
-        print::words(b"\"");
+        print::words(rt, b" \"")?;
+        print::words(rt, bytes)?;
+        print::words(rt, b"\"")?;
     }
-    print::words(b"\n");
+    print::words(rt, b"\n")
 }
 
-fn found(answer: AttributeAnswer, bytes: &[u8]) {
+fn found(rt: &impl Print, answer: AttributeAnswer, bytes: &[u8]) -> io::Result<()> {
     let header = answer.header;
-    show::header(header);
+    show::header(rt, header)?;
     let records = answer.records;
-    members::own(header.kind, records);
+    members::own(rt, header.kind, records)?;
     let named = answer.part;
-    part(header.kind, named, bytes);
+    part(rt, header.kind, named, bytes)
 }
 
-fn ask(label: &[u8], buf: &[u8; 1024], index: u64) {
+fn ask(rt: &impl Print, label: &[u8], buf: &[u8; 1024], index: u64) -> io::Result<()> {
     let answer = ultra_questions::attribute(buf, index);
     let number = answer.answer;
-    print::words(label);
-    show::answer(number);
+    print::words(rt, label)?;
+    show::answer(rt, number)?;
     match number {
-        Answer::Done(_) => found(answer, ultra_questions::attribute_part(buf, index)),
-        Answer::Refused(_) => print::words(b"\n"),
+        Answer::Done(_) => found(rt, answer, ultra_questions::attribute_part(buf, index)),
+        Answer::Refused(_) => print::words(rt, b"\n"),
     }
 }
 
 // The start alone.
-fn ask_start(label: &[u8], buf: &[u8; 1024], index: u64) {
-    print::words(label);
-    show::answer(ultra_questions::attribute_start(buf, index));
-    print::words(b"\n");
+fn ask_start(rt: &impl Print, label: &[u8], buf: &[u8; 1024], index: u64) -> io::Result<()> {
+    print::words(rt, label)?;
+    show::answer(rt, ultra_questions::attribute_start(buf, index))?;
+    print::words(rt, b"\n")
 }
 
 fn context_of_every_type() -> [u8; 1024] {
@@ -61,18 +62,19 @@ fn context_of_every_type() -> [u8; 1024] {
 }
 
 // The index.
-pub fn every(label: &[u8], given: [u64; 6]) {
+pub fn every(rt: &impl Print, label: &[u8], given: [u64; 6]) -> io::Result<()> {
     let buf = context_of_every_type();
-    ask(label, &buf, given[0]);
+    ask(rt, label, &buf, given[0])
 }
 
-pub fn every_start(label: &[u8], given: [u64; 6]) {
+pub fn every_start(rt: &impl Print, label: &[u8], given: [u64; 6]) -> io::Result<()> {
     let buf = context_of_every_type();
-    ask_start(label, &buf, given[0]);
+    ask_start(rt, label, &buf, given[0])
 }
 
-pub fn every_type() {
+pub fn every_type(rt: &impl Print) -> io::Result<()> {
     cases(
+        rt,
         Kind::Every,
         b"\
         index 0: 0\n\
@@ -88,8 +90,9 @@ pub fn every_type() {
         index 4294967296: 4294967296\n\
         index 4294967303: 4294967303\n\
         index 18446744073709551615: 18446744073709551615\n",
-    );
+    )?;
     cases(
+        rt,
         Kind::EveryStart,
         b"\
         start alone of index 0: 0\n\
@@ -97,12 +100,12 @@ pub fn every_type() {
         start alone of index 7: 7\n\
         start alone of index 8: 8\n\
         start alone of index 4294967296: 4294967296\n",
-    );
+    )
 }
 
 // The platform's size. It has a kernel right after it, whose type, size, bases and size in memory are not zero. (Only the byte where one
 // of 56 bytes would have its depth is zero: it is the lowest of a base, which is a multiple of 4,096.)
-pub fn platform(label: &[u8], given: [u64; 6]) {
+pub fn platform(rt: &impl Print, label: &[u8], given: [u64; 6]) -> io::Result<()> {
     let size = given[0];
     let mut buf = [165u8; 1024];
     build::head(&mut buf, 2);
@@ -110,11 +113,12 @@ pub fn platform(label: &[u8], given: [u64; 6]) {
     if size < 256 {
         context::kernel(&mut buf, 8 + size, 336);
     }
-    ask(label, &buf, 0);
+    ask(rt, label, &buf, 0)
 }
 
-pub fn platforms() {
+pub fn platforms(rt: &impl Print) -> io::Result<()> {
     cases(
+        rt,
         Kind::Platform,
         b"\
         platform of 56 bytes: 56\n\
@@ -123,7 +127,7 @@ pub fn platforms() {
         platform of 80 bytes: 80\n\
         platform of 88 bytes: 88\n\
         platform of 96 bytes: 96\n",
-    );
+    )
 }
 
 fn platform_and_kernel(count: u64) -> [u8; 1024] {
@@ -140,33 +144,35 @@ fn third_of_type_0() -> [u8; 1024] {
 }
 
 // A third attribute of type 0 is refused, whatever index is asked for.
-pub fn type_zero(label: &[u8], given: [u64; 6]) {
+pub fn type_zero(rt: &impl Print, label: &[u8], given: [u64; 6]) -> io::Result<()> {
     let buf = third_of_type_0();
-    ask(label, &buf, given[0]);
+    ask(rt, label, &buf, given[0])
 }
 
-fn start_of_type_zero() {
+fn start_of_type_zero(rt: &impl Print) -> io::Result<()> {
     let buf = third_of_type_0();
-    ask_start(b"third of type 0, start alone of index 0", &buf, 0);
+    ask_start(rt, b"third of type 0, start alone of index 0", &buf, 0)
 }
 
 // The count and the index.
-pub fn count(label: &[u8], given: [u64; 6]) {
+pub fn count(rt: &impl Print, label: &[u8], given: [u64; 6]) -> io::Result<()> {
     let buf = platform_and_kernel(given[0]);
-    ask(label, &buf, given[1]);
+    ask(rt, label, &buf, given[1])
 }
 
-pub fn refused() {
+pub fn refused(rt: &impl Print) -> io::Result<()> {
     cases(
+        rt,
         Kind::TypeZero,
         b"\
         third of type 0, index 0: 0\n\
         third of type 0, index 2: 2\n\
         third of type 0, index 3, the count: 3\n\
         third of type 0, index 2^64 - 1: 18446744073709551615\n",
-    );
-    start_of_type_zero();
+    )?;
+    start_of_type_zero(rt)?;
     cases(
+        rt,
         Kind::Count,
         b"\
         count 1, index 0: 1 0\n\
@@ -174,6 +180,6 @@ pub fn refused() {
         count 0, index 0: 0 0\n\
         count 1025, index 1024: 1025 1024\n\
         count 1025, index 1025: 1025 1025\n",
-    );
-    ask(b"zeros, index 0", &[0u8; 1024], 0);
+    )?;
+    ask(rt, b"zeros, index 0", &[0u8; 1024], 0)
 }

@@ -6,6 +6,7 @@ mod attributes;
 mod context;
 
 use cases_text::table;
+use std::io;
 
 // What a table's rows are given.
 #[derive(Clone, Copy)]
@@ -17,30 +18,31 @@ enum Kind {
     Count,
 }
 
-fn case(kind: Kind, row: &[u8]) {
+fn case(rt: &impl Print, kind: Kind, row: &[u8]) -> io::Result<()> {
     let label = table::label(row);
     let values = table::numbers(row);
     let given = values.numbers;
     match kind {
-        Kind::Every => attributes::every(label, given),
-        Kind::EveryStart => attributes::every_start(label, given),
-        Kind::Platform => attributes::platform(label, given),
-        Kind::TypeZero => attributes::type_zero(label, given),
-        Kind::Count => attributes::count(label, given),
+        Kind::Every => attributes::every(rt, label, given),
+        Kind::EveryStart => attributes::every_start(rt, label, given),
+        Kind::Platform => attributes::platform(rt, label, given),
+        Kind::TypeZero => attributes::type_zero(rt, label, given),
+        Kind::Count => attributes::count(rt, label, given),
     }
 }
 
-fn cases(kind: Kind, table: &[u8]) {
+fn cases(rt: &impl Print, kind: Kind, table: &[u8]) -> io::Result<()> {
     let mut at = 0;
     while at < table.len() {
         let end = table::end(table, at);
-        case(kind, &table[at..end]);
+        case(rt, kind, &table[at..end])?;
         at = end;
     }
+    Ok(())
 }
 
-fn main() {
-    attributes::every_type();
-    attributes::platforms();
-    attributes::refused();
+fn main(rt: HostRuntime) -> io::Result<()> {
+    attributes::every_type(&rt)?;
+    attributes::platforms(&rt)?;
+    attributes::refused(&rt)
 }

@@ -2,6 +2,7 @@
 use cases_shared::show;
 use cases_text::print;
 use refusals::Answer;
+use std::io;
 use ultra_format::Records;
 
 fn records(from: &[u8; 1024], index: u64) -> Records {
@@ -56,20 +57,26 @@ fn all_of(from: &[u8; 1024], to: &mut [u8; 1024]) -> Answer {
 }
 
 // The contexts, and what is after the second.
-fn compare(first: &[u8; 1024], second: &[u8; 1024], blank: &[u8; 1024]) {
+fn compare(
+    rt: &impl Print,
+    first: &[u8; 1024],
+    second: &[u8; 1024],
+    blank: &[u8; 1024],
+) -> io::Result<()> {
     print::form(
+        rt,
         b"bytes of the two contexts that differ: #\nbytes after the second that differ from 90: #\n",
         &[
             print::differences_in(first, second, 0, 736) as u64,
             print::differences_in(second, blank, 736, 1024) as u64,
         ],
-    );
+    )
 }
 
 // The context of every type, once more in a buffer of 90s.
-pub fn all(first: [u8; 1024]) {
+pub fn all(rt: &impl Print, first: [u8; 1024]) -> io::Result<()> {
     let blank = [90u8; 1024];
     let mut second = blank;
-    show::call(b"read and added again", all_of(&first, &mut second));
-    compare(&first, &second, &blank);
+    show::call(rt, b"read and added again", all_of(&first, &mut second))?;
+    compare(rt, &first, &second, &blank)
 }

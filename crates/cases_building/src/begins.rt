@@ -2,42 +2,43 @@
 use cases_shared::show;
 use cases_text::print;
 use refusals::Answer;
+use std::io;
 
-fn begun(label: &[u8], answer: Answer, bytes: &[u8]) {
-    print::words(label);
-    show::answer(answer);
-    print::words(b", bytes");
-    print::bytes(bytes);
-    print::words(b"\n");
+fn begun(rt: &impl Print, label: &[u8], answer: Answer, bytes: &[u8]) -> io::Result<()> {
+    print::words(rt, label)?;
+    show::answer(rt, answer)?;
+    print::words(rt, b", bytes")?;
+    print::bytes(rt, bytes)?;
+    print::words(rt, b"\n")
 }
 
-fn on_0() {
+fn on_0(rt: &impl Print) -> io::Result<()> {
     let mut space = [165u8; 0];
-    show::call(b"begin on 0 bytes", ultra_building::begin(&mut space));
+    show::call(rt, b"begin on 0 bytes", ultra_building::begin(&mut space))
 }
 
-fn on_7() {
+fn on_7(rt: &impl Print) -> io::Result<()> {
     let mut space = [165u8; 7];
     let answer = ultra_building::begin(&mut space);
-    begun(b"begin on 7 bytes", answer, &space);
+    begun(rt, b"begin on 7 bytes", answer, &space)
 }
 
-fn on_8() {
+fn on_8(rt: &impl Print) -> io::Result<()> {
     let mut space = [165u8; 8];
     let answer = ultra_building::begin(&mut space);
-    begun(b"begin on 8 bytes", answer, &space);
+    begun(rt, b"begin on 8 bytes", answer, &space)
 }
 
-fn on_24() {
+fn on_24(rt: &impl Print) -> io::Result<()> {
     let mut space = [165u8; 24];
     let answer = ultra_building::begin(&mut space);
-    begun(b"begin on 24 bytes", answer, &space);
-    show::reading(b"begin on 24 bytes, read", ultra_reading::read(&space));
+    begun(rt, b"begin on 24 bytes", answer, &space)?;
+    show::reading(rt, b"begin on 24 bytes, read", ultra_reading::read(&space))
 }
 
-pub fn all() {
-    on_0();
-    on_7();
-    on_8();
-    on_24();
+pub fn all(rt: &impl Print) -> io::Result<()> {
+    on_0(rt)?;
+    on_7(rt)?;
+    on_8(rt)?;
+    on_24(rt)
 }

@@ -1,6 +1,7 @@
 // The context of document 01's listing, built in a buffer of 165s.
 use cases_shared::{given, show};
 use cases_text::print;
+use std::io;
 use ultra_format::{KernelRecord, OptionalU8, OptionalU64, PlatformRecord};
 
 fn platform() -> PlatformRecord {
@@ -33,69 +34,87 @@ fn kernel() -> KernelRecord {
     }
 }
 
-fn begin_and_platform(buf: &mut [u8; 512]) {
-    show::call(b"listing, begin", ultra_building::begin(buf));
+fn begin_and_platform(rt: &impl Print, buf: &mut [u8; 512]) -> io::Result<()> {
+    show::call(rt, b"listing, begin", ultra_building::begin(buf))?;
     let record = platform();
     show::call(
+        rt,
         b"listing, platform",
         ultra_building::add_platform(buf, record),
-    );
-    show::reading(b"listing, platform alone, read", ultra_reading::read(buf));
+    )?;
+    show::reading(
+        rt,
+        b"listing, platform alone, read",
+        ultra_reading::read(buf),
+    )
 }
 
-fn kernel_map_and_line(buf: &mut [u8; 512]) {
+fn kernel_map_and_line(rt: &impl Print, buf: &mut [u8; 512]) -> io::Result<()> {
     let record = kernel();
-    show::call(b"listing, kernel", ultra_building::add_kernel(buf, record));
     show::call(
+        rt,
+        b"listing, kernel",
+        ultra_building::add_kernel(buf, record),
+    )?;
+    show::call(
+        rt,
         b"listing, map",
         ultra_building::add_map(buf, &[1048576, 1048576, 1]),
-    );
+    )?;
     show::call(
+        rt,
         b"listing, command line",
         ultra_building::add_command_line(buf, b"quiet"),
-    );
+    )
 }
 
-fn read(buf: &[u8; 512]) {
-    show::reading(b"listing, read", ultra_reading::read(buf));
-    print::words(b"listing, bytes");
-    print::rows(buf);
-    print::words(b"\n");
+fn read(rt: &impl Print, buf: &[u8; 512]) -> io::Result<()> {
+    show::reading(rt, b"listing, read", ultra_reading::read(buf))?;
+    print::words(rt, b"listing, bytes")?;
+    print::rows(rt, buf)?;
+    print::words(rt, b"\n")
 }
 
-fn differences(left: &[u8; 512], right: &[u8; 512]) {
+fn differences(rt: &impl Print, left: &[u8; 512], right: &[u8; 512]) -> io::Result<()> {
     print::form(
+        rt,
         b", bytes that differ #\n",
         &[print::differences_in(left, right, 0, 512) as u64],
-    );
+    )
 }
 
-fn head(buf: &[u8]) {
-    print::words(b", head");
+fn head(rt: &impl Print, buf: &[u8]) -> io::Result<()> {
+    print::words(rt, b", head")?;
     if 8 <= buf.len() {
-        print::bytes(&buf[0..8]);
+        print::bytes(rt, &buf[0..8])?;
     }
+    Ok(())
 }
 
 // A context is emptied by beginning it again; what was after its head stays.
-fn begin_again(built: [u8; 512]) {
+fn begin_again(rt: &impl Print, built: [u8; 512]) -> io::Result<()> {
     let mut space = built;
-    print::words(b"listing, begin again");
-    show::answer(ultra_building::begin(&mut space));
-    head(&space);
-    differences(&built, &space);
-    show::reading(b"listing, begin again, read", ultra_reading::read(&space));
+    print::words(rt, b"listing, begin again")?;
+    show::answer(rt, ultra_building::begin(&mut space))?;
+    head(rt, &space)?;
+    differences(rt, &built, &space)?;
+    show::reading(
+        rt,
+        b"listing, begin again, read",
+        ultra_reading::read(&space),
+    )?;
     let record = platform();
     show::call(
+        rt,
         b"listing, begin again, platform",
         ultra_building::add_platform(&mut space, record),
-    );
+    )
 }
 
-pub fn all() {
+pub fn all(rt: &impl Print) -> io::Result<()> {
     let mut space = [165u8; 512];
-    begin_and_platform(&mut space);
-    kernel_map_and_line(&mut space);
-    read(&space);
-    begin_again(space);
+    begin_and_platform(rt, &mut space)?;
+    kernel_map_and_line(rt, &mut space)?;
+    read(rt, &space)?;
+    begin_again(rt, space)
 }

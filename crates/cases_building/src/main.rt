@@ -7,9 +7,11 @@ mod begins;
 mod every;
 mod listing;
 
-fn main() {
-    begins::all();
-    listing::all();
-    let built = every::all();
-    again::all(built);
+use std::io;
+
+fn main(rt: HostRuntime) -> io::Result<()> {
+    begins::all(&rt)?;
+    listing::all(&rt)?;
+    let built = every::all(&rt)?;
+    again::all(&rt, built)
 }

@@ -29,10 +29,8 @@ fn letter(buf: &mut [u8], at: usize) {
 
 // `n` bytes of the letter a.
 fn letters(buf: &mut [u8], at: usize, n: u64) {
-    let mut i = 0;
-    while i < n {
+    for i in 0..n {
         letter(buf, after(at, i));
-        i += 1;
     }
 }
 
@@ -74,10 +72,8 @@ pub fn map(buf: &mut [u8], at: usize, n: u64) -> usize {
         return at;
     }
     attribute(buf, at, 3, 8 + 24 * n);
-    let mut i = 0;
-    while i < n {
+    for i in 0..n {
         page(buf, after(at, 8), i);
-        i += 1;
     }
     after(at, 8 + 24 * n)
 }
@@ -95,10 +91,8 @@ pub fn module(buf: &mut [u8], at: usize, n: u64) -> usize {
 // `n` modules with names of 63 letters.
 pub fn modules(buf: &mut [u8], first: usize, n: u64) -> usize {
     let mut at = first;
-    let mut i = 0;
-    while i < n {
+    for i in 0..n {
         at = module(buf, at, 63);
-        i += 1;
     }
     at
 }

@@ -6,7 +6,7 @@ mod given;
 mod show;
 
 use cases_text::table;
-use libc::STDIN_FILENO;
+use std::io;
 
 // The records that are shown of a payload.
 const SHOWN: u64 = 16;
@@ -30,80 +30,75 @@ fn attribute(buf: &mut [u8], at: usize, kind: u64) -> usize {
 // Those that the row has from its fourth number on.
 fn each(buf: &mut [u8], first: usize, values: &[u64; 24]) {
     let mut at = first;
-    let mut i = 3;
-    while i < 24 {
+    for i in 3..24 {
         at = attribute(buf, at, values[i]);
-        i += 1;
     }
 }
 
 // The RSDP address, the load address, the output's length, and the attributes after the kernel.
-fn attributes(label: &[u8], values: &[u64; 24], count: usize) {
+fn attributes(rt: &impl Print, label: &[u8], values: &[u64; 24], count: usize) -> io::Result<()> {
     let mut buf = [0u8; 4096];
-    let at = given::front(
-        &mut buf,
-        std::num::wrapping_sub_u64(count as u64, 1),
-        values[0],
-    );
+    let at = given::front(&mut buf, (count as u64).wrapping_sub(1), values[0]);
     each(&mut buf, at, values);
-    show::export(label, &buf, values[1], values[2], SHOWN);
+    show::export(rt, label, &buf, values[1], values[2], SHOWN)
 }
 
 // The address, the size and the type of the map's one range.
-fn range(label: &[u8], values: &[u64; 24]) {
+fn range(rt: &impl Print, label: &[u8], values: &[u64; 24]) -> io::Result<()> {
     let mut buf = [0u8; 4096];
     let at = given::front(&mut buf, 3, 0);
     given::map(&mut buf, at, 1);
     given::entry(&mut buf, 408, values[0], values[1], values[2]);
-    show::export(label, &buf, 0, 1000, 2);
+    show::export(rt, label, &buf, 0, 1000, 2)
 }
 
 // How many ranges, the RSDP address, the load address and the output's length.
-fn ranges(label: &[u8], values: &[u64; 24]) {
+fn ranges(rt: &impl Print, label: &[u8], values: &[u64; 24]) -> io::Result<()> {
     let mut buf = [0u8; 65536];
     let at = given::front(&mut buf, 3, values[1]);
     given::map(&mut buf, at, values[0]);
-    show::export(label, &buf, values[2], values[3], 1);
+    show::export(rt, label, &buf, values[2], values[3], 1)
 }
 
 // How many modules with a name of 63 letters, how many letters in the command line, the load address and the output's length.
-fn modules(label: &[u8], values: &[u64; 24]) {
+fn modules(rt: &impl Print, label: &[u8], values: &[u64; 24]) -> io::Result<()> {
     let mut buf = [0u8; 65536];
     let at = given::front(&mut buf, 3 + values[0] % 1000, 0);
     let end = given::modules(&mut buf, at, values[0] % 1000);
     given::line(&mut buf, end, values[1]);
-    show::export(label, &buf, values[2], values[3], 1);
+    show::export(rt, label, &buf, values[2], values[3], 1)
 }
 
 // The first byte of a row says which kind it is of, and its label is from the third on.
-fn case(row: &[u8]) {
+fn case(rt: &impl Print, row: &[u8]) -> io::Result<()> {
     if row.len() < 2 {
-        return;
+        return Ok(());
     }
     let kind = row[0];
     let label = table::label(&row[2..]);
     let mut values = [0u64; 24];
     let count = table::put_numbers(row, &mut values);
     match kind {
-        b'a' => attributes(label, &values, count),
-        b't' => range(label, &values),
-        b'r' => ranges(label, &values),
-        b'm' => modules(label, &values),
-        _ => {}
+        b'a' => attributes(rt, label, &values, count),
+        b't' => range(rt, label, &values),
+        b'r' => ranges(rt, label, &values),
+        b'm' => modules(rt, label, &values),
+        _ => Ok(()),
     }
 }
 
-fn cases(table: &[u8]) {
+fn cases(rt: &impl Print, table: &[u8]) -> io::Result<()> {
     let mut at = 0;
     while at < table.len() {
         let end = table::end(table, at);
-        case(&table[at..end]);
+        case(rt, &table[at..end])?;
         at = end;
     }
+    Ok(())
 }
 
-fn main() {
-    let mut input = io::large_buffer();
-    let read = io::read_full(STDIN_FILENO, &mut input);
-    cases(&input[..read]);
+fn main(rt: HostRuntime) -> io::Result<()> {
+    let mut input = [0u8; 65536];
+    let read = full_reads::read_full(&mut rt.stdin(), &mut input)?;
+    cases(&rt, &input[..read])
 }

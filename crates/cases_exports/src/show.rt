@@ -2,6 +2,7 @@
 use cases_text::print;
 use handover_format::Record;
 use refusals::Answer;
+use std::io;
 
 // What a byte of the output is before.
 const BEFORE: u8 = 165;
@@ -16,11 +17,9 @@ fn changed(byte: u8) -> u64 {
 
 // How many bytes are not as before.
 fn changes(out: &[u8]) -> u64 {
-    let mut n = 0;
-    let mut i = 0;
-    while i < out.len() {
-        n = std::num::wrapping_add_u64(n, changed(out[i]));
-        i += 1;
+    let mut n: u64 = 0;
+    for byte in out {
+        n = n.wrapping_add(changed(*byte));
     }
     n
 }
@@ -33,26 +32,27 @@ fn after(out: &[u8], start: usize) -> &[u8] {
     &out[start..]
 }
 
-fn tag(tag: u32) {
+fn tag(rt: &impl Print, tag: u32) -> io::Result<()> {
     match tag {
-        handover_format::HANDOVER_FREE => print::words(b"FREE"),
-        handover_format::HANDOVER_SELF => print::words(b"SELF"),
-        handover_format::HANDOVER_STACK => print::words(b"STACK"),
-        handover_format::HANDOVER_KERNEL => print::words(b"KERNEL"),
-        handover_format::HANDOVER_LOADER => print::words(b"LOADER"),
-        handover_format::HANDOVER_FILE => print::words(b"FILE"),
-        handover_format::HANDOVER_RSDP => print::words(b"RSDP"),
-        handover_format::HANDOVER_CMDLINE => print::words(b"CMDLINE"),
-        handover_format::HANDOVER_RESERVED => print::words(b"RESERVED"),
-        handover_format::HANDOVER_END => print::words(b"END"),
-        _ => print::number(b"tag ", tag as u64),
+        handover_format::HANDOVER_FREE => print::words(rt, b"FREE"),
+        handover_format::HANDOVER_SELF => print::words(rt, b"SELF"),
+        handover_format::HANDOVER_STACK => print::words(rt, b"STACK"),
+        handover_format::HANDOVER_KERNEL => print::words(rt, b"KERNEL"),
+        handover_format::HANDOVER_LOADER => print::words(rt, b"LOADER"),
+        handover_format::HANDOVER_FILE => print::words(rt, b"FILE"),
+        handover_format::HANDOVER_RSDP => print::words(rt, b"RSDP"),
+        handover_format::HANDOVER_CMDLINE => print::words(rt, b"CMDLINE"),
+        handover_format::HANDOVER_RESERVED => print::words(rt, b"RESERVED"),
+        handover_format::HANDOVER_END => print::words(rt, b"END"),
+        _ => print::number(rt, b"tag ", tag as u64),
     }
 }
 
-fn words(given: Record) {
-    print::words(b"  ");
-    tag(given.tag);
+fn words(rt: &impl Print, given: Record) -> io::Result<()> {
+    print::words(rt, b"  ")?;
+    tag(rt, given.tag)?;
     print::form(
+        rt,
         b" #, # bytes; flags #, words # #",
         &[
             given.start,
@@ -61,77 +61,94 @@ fn words(given: Record) {
             given.name as u64,
             given.meta as u64,
         ],
-    );
+    )
 }
 
 // A record, with the strings that it names; answers whether there was one.
-fn record(payload: &[u8], index: u64) -> bool {
+fn record(rt: &impl Print, payload: &[u8], index: u64) -> io::Result<bool> {
     let asked = handover_questions::record_at(payload, index);
     let answer = asked.answer;
     let Answer::Done(_) = answer else {
-        return false;
+        return Ok(false);
     };
-    words(asked.words);
-    print::words(b" \"");
-    print::words(handover_questions::record_name(payload, index));
-    print::words(b"\" \"");
-    print::words(handover_questions::record_meta(payload, index));
-    print::words(b"\"\n");
-    true
+    words(rt, asked.words)?;
+    print::words(rt, b" \"")?;
+    print::words(rt, handover_questions::record_name(payload, index))?;
+    print::words(rt, b"\" \"")?;
+    print::words(rt, handover_questions::record_meta(payload, index))?;
+    print::words(rt, b"\"\n")?;
+    Ok(true)
 }
 
 // The first `most` records.
-fn records(payload: &[u8], most: u64) {
-    let mut i = 0;
-    while i < most {
-        if !record(payload, i) {
-            return;
+fn records(rt: &impl Print, payload: &[u8], most: u64) -> io::Result<()> {
+    for i in 0..most {
+        if !record(rt, payload, i)? {
+            return Ok(());
         }
-        i += 1;
     }
+    Ok(())
 }
 
-fn read_back(payload: &[u8]) {
+fn read_back(rt: &impl Print, payload: &[u8]) -> io::Result<()> {
     match handover_reading::read(payload) {
-        Answer::Done(size) => print::number(b", read ", size as u64),
+        Answer::Done(size) => print::number(rt, b", read ", size as u64),
         Answer::Refused(r) => print::form(
+            rt,
             b", read refused # at #",
             &[r.number as u64, r.offset as u64],
         ),
-    }
-    print::words(b", agent \"");
-    print::words(handover_questions::agent_name(payload));
-    print::words(b"\"\n");
+    }?;
+    print::words(rt, b", agent \"")?;
+    print::words(rt, handover_questions::agent_name(payload))?;
+    print::words(rt, b"\"\n")
 }
 
-fn show(context: &[u8], load: u64, out: &mut [u8], most: u64) {
+fn show(rt: &impl Print, context: &[u8], load: u64, out: &mut [u8], most: u64) -> io::Result<()> {
     let answer = handover_export::export(context, load, out);
     match answer {
         Answer::Refused(r) => print::form(
+            rt,
             b": refused # at #, # bytes changed\n",
             &[r.number as u64, r.offset as u64, changes(out)],
         ),
         Answer::Done(size) => {
             print::form(
+                rt,
                 b": # bytes, # changed after them",
                 &[size as u64, changes(after(out, size as usize))],
-            );
-            read_back(out);
-            records(out, most);
+            )?;
+            read_back(rt, out)?;
+            records(rt, out, most)
         }
     }
 }
 
 // The first `length` bytes of `space` are lent.
-fn lend(context: &[u8], load: u64, space: &mut [u8], length: usize, most: u64) {
+fn lend(
+    rt: &impl Print,
+    context: &[u8],
+    load: u64,
+    space: &mut [u8],
+    length: usize,
+    most: u64,
+) -> io::Result<()> {
     if length <= space.len() {
-        show(context, load, &mut space[0..length], most);
+        show(rt, context, load, &mut space[0..length], most)?;
     }
+    Ok(())
 }
 
 // The context exported for `load` into an output of `length` bytes, and up to `most` records of the payload.
-pub fn export(label: &[u8], context: &[u8], load: u64, length: u64, most: u64) {
+pub fn export(
+    rt: &impl Print,
+    label: &[u8],
+    context: &[u8],
+    load: u64,
+    length: u64,
+    most: u64,
+) -> io::Result<()> {
     let mut space = [BEFORE; 70000];
-    print::words(label);
-    lend(context, load, &mut space, length as usize, most);
+    print::words(rt, label)?;
+    lend(rt, context, load, &mut space, length as usize, most)
 }

@@ -3,6 +3,7 @@ use cases_contexts::build;
 use cases_shared::show;
 use cases_text::print;
 use refusals::Answer;
+use std::io;
 
 fn add(from: &[u8; 1024], to: &mut [u8]) -> Answer {
     let answer = ultra_questions::attribute(from, 0);
@@ -11,18 +12,18 @@ fn add(from: &[u8; 1024], to: &mut [u8]) -> Answer {
     ultra_building::add_platform(to, record)
 }
 
-fn platform_of(label: &[u8], from: &[u8; 1024]) {
+fn platform_of(rt: &impl Print, label: &[u8], from: &[u8; 1024]) -> io::Result<()> {
     let mut to = [90u8; 112];
     ultra_building::begin(&mut to);
-    print::words(label);
-    show::answer(add(from, &mut to));
-    print::words(b", bytes");
-    print::rows(&to);
-    print::words(b"\n");
+    print::words(rt, label)?;
+    show::answer(rt, add(from, &mut to))?;
+    print::words(rt, b", bytes")?;
+    print::rows(rt, &to)?;
+    print::words(rt, b"\n")
 }
 
 // A platform of 96 bytes, with silent bytes that are not zero.
-fn longer() {
+fn longer(rt: &impl Print) -> io::Result<()> {
     let mut space = [0u8; 1024];
     build::head(&mut space, 2);
     build::platform_and_kernel(&mut space, 96);
@@ -31,18 +32,18 @@ fn longer() {
     build::put_bytes(&mut space, 24, b"frost\0\xa5\xa5");
     build::put_bytes(&mut space, 72, b"\x05\xa5\xa5\xa5\xa5\xa5\xa5\xa5");
     build::put(&mut space, 96, 8, 0xa5a5_a5a5_a5a5_a5a5);
-    platform_of(b"platform of 96 bytes, read and added again", &space);
+    platform_of(rt, b"platform of 96 bytes, read and added again", &space)
 }
 
 // A platform without late members.
-fn shorter() {
+fn shorter(rt: &impl Print) -> io::Result<()> {
     let mut space = [0u8; 1024];
     build::head(&mut space, 2);
     build::platform_and_kernel(&mut space, 56);
-    platform_of(b"platform of 56 bytes, read and added again", &space);
+    platform_of(rt, b"platform of 56 bytes, read and added again", &space)
 }
 
-pub fn all() {
-    longer();
-    shorter();
+pub fn all(rt: &impl Print) -> io::Result<()> {
+    longer(rt)?;
+    shorter(rt)
 }

@@ -2,14 +2,23 @@
 use cases_contexts::build;
 use cases_shared::{given, show};
 use cases_text::print;
+use std::io;
 
 // How many bytes changed from `start` up to `end`, on a line of its own.
-fn changed(label: &[u8], before: &[u8; 1024], after: &[u8; 1024], start: usize, end: usize) {
+fn changed(
+    rt: &impl Print,
+    label: &[u8],
+    before: &[u8; 1024],
+    after: &[u8; 1024],
+    start: usize,
+    end: usize,
+) -> io::Result<()> {
     print::number(
+        rt,
         label,
         print::differences_in(before, after, start, end) as u64,
-    );
-    print::words(b"\n");
+    )?;
+    print::words(rt, b"\n")
 }
 
 // A platform without late members, alone.
@@ -20,23 +29,25 @@ fn short_platform() -> [u8; 1024] {
     buf
 }
 
-fn after_a_short_platform() {
+fn after_a_short_platform(rt: &impl Print) -> io::Result<()> {
     let before = short_platform();
     let mut after = before;
     let record = given::kernel();
-    print::words(b"kernel after a platform of 56 bytes");
-    show::answer(ultra_building::add_kernel(&mut after, record));
+    print::words(rt, b"kernel after a platform of 56 bytes")?;
+    show::answer(rt, ultra_building::add_kernel(&mut after, record))?;
     changed(
+        rt,
         b"\n  bytes of the platform that changed: ",
         &before,
         &after,
         8,
         64,
-    );
+    )?;
     show::reading(
+        rt,
         b"kernel after a platform of 56 bytes, read",
         ultra_reading::read(&after),
-    );
+    )
 }
 
 // Version 7.9, a platform of 96 bytes and a kernel of 344 with silent bytes that are not zero, and an attribute of type 7.
@@ -54,39 +65,49 @@ fn context() -> [u8; 1024] {
     buf
 }
 
-fn compare(before: &[u8; 1024], after: &[u8; 1024]) {
+fn compare(rt: &impl Print, before: &[u8; 1024], after: &[u8; 1024]) -> io::Result<()> {
     changed(
+        rt,
         b"\n  bytes of the attributes before that changed: ",
         before,
         after,
         8,
         464,
-    );
-    changed(b"  bytes after that changed: ", before, after, 560, 1024);
+    )?;
+    changed(
+        rt,
+        b"  bytes after that changed: ",
+        before,
+        after,
+        560,
+        1024,
+    )
 }
 
-fn head(buf: &[u8]) {
-    print::words(b"\n  head");
+fn head(rt: &impl Print, buf: &[u8]) -> io::Result<()> {
+    print::words(rt, b"\n  head")?;
     if 8 <= buf.len() {
-        print::bytes(&buf[0..8]);
+        print::bytes(rt, &buf[0..8])?;
     }
+    Ok(())
 }
 
-fn kept() {
+fn kept(rt: &impl Print) -> io::Result<()> {
     let before = context();
     let mut after = before;
     let record = given::module();
-    print::words(b"module to a foreign context");
-    show::answer(ultra_building::add_module(&mut after, record));
-    head(&after);
-    compare(&before, &after);
+    print::words(rt, b"module to a foreign context")?;
+    show::answer(rt, ultra_building::add_module(&mut after, record))?;
+    head(rt, &after)?;
+    compare(rt, &before, &after)?;
     show::reading(
+        rt,
         b"module to a foreign context, read",
         ultra_reading::read(&after),
-    );
+    )
 }
 
-pub fn all() {
-    after_a_short_platform();
-    kept();
+pub fn all(rt: &impl Print) -> io::Result<()> {
+    after_a_short_platform(rt)?;
+    kept(rt)
 }

@@ -2,45 +2,62 @@
 use cases_adds::{full, line};
 use cases_shared::{given, show};
 use cases_text::print;
+use std::io;
 use ultra_format::{FramebufferRecord, PlatformRecord};
 
 fn changed(before: &[u8; 8704], after: &[u8; 8704]) -> usize {
     print::differences(before, after)
 }
 
-fn platform(label: &[u8], before: [u8; 8704], record: PlatformRecord) {
+fn platform(
+    rt: &impl Print,
+    label: &[u8],
+    before: [u8; 8704],
+    record: PlatformRecord,
+) -> io::Result<()> {
     let mut after = before;
     let answer = ultra_building::add_platform(&mut after, record);
-    line(label, answer, changed(&before, &after));
+    line(rt, label, answer, changed(&before, &after))
 }
 
 // Answers the buffer.
-fn framebuffer(label: &[u8], before: [u8; 8704], record: FramebufferRecord) -> [u8; 8704] {
+fn framebuffer(
+    rt: &impl Print,
+    label: &[u8],
+    before: [u8; 8704],
+    record: FramebufferRecord,
+) -> io::Result<[u8; 8704]> {
     let mut after = before;
     let answer = ultra_building::add_framebuffer(&mut after, record);
-    line(label, answer, changed(&before, &after));
-    after
+    line(rt, label, answer, changed(&before, &after))?;
+    Ok(after)
 }
 
-fn to_1024(buf: [u8; 8704]) {
+fn to_1024(rt: &impl Print, buf: [u8; 8704]) -> io::Result<()> {
     let mut record = given::framebuffer();
-    framebuffer(b"framebuffer to 1024 attributes", buf, record);
+    framebuffer(rt, b"framebuffer to 1024 attributes", buf, record)?;
     record.format = 0;
-    framebuffer(b"framebuffer of format 0 to 1024 attributes", buf, record);
+    framebuffer(
+        rt,
+        b"framebuffer of format 0 to 1024 attributes",
+        buf,
+        record,
+    )?;
     let first = given::platform();
-    platform(b"platform to 1024 attributes", buf, first);
+    platform(rt, b"platform to 1024 attributes", buf, first)
 }
 
-fn to_1023(buf: [u8; 8704]) {
+fn to_1023(rt: &impl Print, buf: [u8; 8704]) -> io::Result<()> {
     let record = given::framebuffer();
-    let after = framebuffer(b"framebuffer to 1023 attributes", buf, record);
-    show::reading(b"  read", ultra_reading::read(&after));
-    framebuffer(b"framebuffer to the 1024 that it makes", after, record);
+    let after = framebuffer(rt, b"framebuffer to 1023 attributes", buf, record)?;
+    show::reading(rt, b"  read", ultra_reading::read(&after))?;
+    framebuffer(rt, b"framebuffer to the 1024 that it makes", after, record)?;
+    Ok(())
 }
 
-pub fn all() {
+pub fn all(rt: &impl Print) -> io::Result<()> {
     let buf = full::almost();
     let one_more = full::full(buf);
-    to_1024(one_more);
-    to_1023(buf);
+    to_1024(rt, one_more)?;
+    to_1023(rt, buf)
 }

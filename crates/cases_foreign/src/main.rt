@@ -7,9 +7,11 @@ mod foreign;
 mod full;
 mod reading;
 
-fn main() {
-    reading::all();
-    foreign::all();
-    again::all();
-    full::all();
+use std::io;
+
+fn main(rt: HostRuntime) -> io::Result<()> {
+    reading::all(&rt)?;
+    foreign::all(&rt)?;
+    again::all(&rt)?;
+    full::all(&rt)
 }

@@ -5,6 +5,7 @@ ghost use Rattle.std.specs.Prelude.{◌+◌, ◌*◌, ◌≤◌, length};
 use cases_contexts::build;
 use cases_text::print;
 use refusals::Answer;
+use std::io;
 use ultra_reading::Reading;
 
 // A callee that names the array's length owes no proof of it.
@@ -27,10 +28,8 @@ fn front(buf: &mut [u8], count: u64, size: u64) {
 fn body(buf: &mut [u8], numbers: &[u64])
     requires { 440 + 8 * length numbers.now ≤ length buf.old }
 {
-    let mut i = 0;
-    while i < numbers.len() {
+    for i in 0..numbers.len() {
         words::store_u64(buf, 440 + 8 * i, numbers[i]);
-        i += 1;
     }
 }
 
@@ -54,36 +53,42 @@ fn read(buf: &[u8]) -> Answer {
     }
 }
 
-fn show(before: &[u8], answer: Answer) {
-    print::words(before);
+fn show(rt: &impl Print, before: &[u8], answer: Answer) -> io::Result<()> {
+    print::words(rt, before)?;
     match answer {
-        Answer::Done(used) => print::number(b"done ", used as u64),
-        Answer::Refused(r) => print::form(b"# at #", &[r.number as u64, r.offset as u64]),
+        Answer::Done(used) => print::number(rt, b"done ", used as u64),
+        Answer::Refused(r) => print::form(rt, b"# at #", &[r.number as u64, r.offset as u64]),
     }
 }
 
 // The map's bytes are those of the context, from 440 up to `end`. What follows there are zeros, so that a reader who goes on meets type 0.
-fn line(label: &[u8], numbers: &[u64], context: &[u8], end: usize)
+fn line(
+    rt: &impl Print,
+    label: &[u8],
+    numbers: &[u64],
+    context: &[u8],
+    end: usize,
+) -> io::Result<()>
     requires { (440 ≤ end) × (end ≤ length context.now) }
 {
-    print::words(label);
-    show(b": given ", given(numbers));
-    show(b", bytes ", bytes(&context[440..end]));
-    show(b", read ", read(context));
-    print::words(b"\n");
+    print::words(rt, label)?;
+    show(rt, b": given ", given(numbers))?;
+    show(rt, b", bytes ", bytes(&context[440..end]))?;
+    show(rt, b", read ", read(context))?;
+    print::words(rt, b"\n")
 }
 
 // Up to 16,384 numbers, and up to 40 bytes more.
-pub fn judge(label: &[u8], numbers: &[u64], more: u64) {
+pub fn judge(rt: &impl Print, label: &[u8], numbers: &[u64], more: u64) -> io::Result<()> {
     if 16384 < numbers.len() {
-        return;
+        return Ok(());
     }
     if 40 < more {
-        return;
+        return Ok(());
     }
     let size = 8 + 8 * numbers.len() + more as usize;
     let mut context = [0u8; 131552];
     front(&mut context, 3, size as u64);
     body(&mut context, numbers);
-    line(label, numbers, &context, 432 + size);
+    line(rt, label, numbers, &context, 432 + size)
 }

@@ -2,6 +2,7 @@
 ghost use Rattle.std.specs.Prelude.{◌<◌};
 
 use crate::forms;
+use std::io;
 
 // Those from `start` up to `end`; none where there are fewer.
 fn part(numbers: &[u64], start: usize, end: usize) -> &[u64] {
@@ -15,13 +16,18 @@ fn part(numbers: &[u64], start: usize, end: usize) -> &[u64] {
 }
 
 // The row's numbers, as they are.
-pub fn entries(label: &[u8], values: &[u64; 24], count: usize) {
-    forms::judge(label, part(values, 0, count), 0);
+pub fn entries(rt: &impl Print, label: &[u8], values: &[u64; 24], count: usize) -> io::Result<()> {
+    forms::judge(rt, label, part(values, 0, count), 0)
 }
 
 // How many bytes there are after the numbers, and then these.
-pub fn bytes_more(label: &[u8], values: &[u64; 24], count: usize) {
-    forms::judge(label, part(values, 1, count), values[0]);
+pub fn bytes_more(
+    rt: &impl Print,
+    label: &[u8],
+    values: &[u64; 24],
+    count: usize,
+) -> io::Result<()> {
+    forms::judge(rt, label, part(values, 1, count), values[0])
 }
 
 // The numbers of sound entries: of 4,096 bytes each, the first at 4,096. Each ends where the next begins, so that one more or less shows.
@@ -37,10 +43,8 @@ fn sound_number(index: usize) -> u64
 
 fn sound() -> [u64; 16384] {
     let mut numbers = [0u64; 16384];
-    let mut i = 0;
-    while i < 16384 {
+    for i in 0..16384 {
         numbers[i] = sound_number(i);
-        i += 1;
     }
     numbers
 }
@@ -57,15 +61,15 @@ fn put(numbers: &mut [u64; 16384], index: u64, number: u64) {
 }
 
 // A callee that names the array's length owes no proof of it.
-fn first(label: &[u8], numbers: &[u64; 16384], count: u64) {
-    forms::judge(label, part(numbers, 0, count as usize), 0);
+fn first(rt: &impl Print, label: &[u8], numbers: &[u64; 16384], count: u64) -> io::Result<()> {
+    forms::judge(rt, label, part(numbers, 0, count as usize), 0)
 }
 
 // How many numbers of sound entries, and up to three that are others: the index and the number.
-pub fn sound_but(label: &[u8], values: [u64; 24]) {
+pub fn sound_but(rt: &impl Print, label: &[u8], values: [u64; 24]) -> io::Result<()> {
     let mut numbers = sound();
     put(&mut numbers, values[1], values[2]);
     put(&mut numbers, values[3], values[4]);
     put(&mut numbers, values[5], values[6]);
-    first(label, &numbers, values[0]);
+    first(rt, label, &numbers, values[0])
 }

@@ -7,36 +7,37 @@ mod forms;
 mod given;
 
 use cases_text::table;
-use libc::STDIN_FILENO;
+use std::io;
 
 // The first byte of a row says which kind it is of, and its label is from the third on.
-fn case(row: &[u8]) {
+fn case(rt: &impl Print, row: &[u8]) -> io::Result<()> {
     if row.len() < 2 {
-        return;
+        return Ok(());
     }
     let kind = row[0];
     let label = table::label(&row[2..]);
     let mut values = [0u64; 24];
     let count = table::put_numbers(row, &mut values);
     match kind {
-        b'e' => given::entries(label, &values, count),
-        b'b' => given::bytes_more(label, &values, count),
-        b's' => given::sound_but(label, values),
-        _ => {}
+        b'e' => given::entries(rt, label, &values, count),
+        b'b' => given::bytes_more(rt, label, &values, count),
+        b's' => given::sound_but(rt, label, values),
+        _ => Ok(()),
     }
 }
 
-fn cases(table: &[u8]) {
+fn cases(rt: &impl Print, table: &[u8]) -> io::Result<()> {
     let mut at = 0;
     while at < table.len() {
         let end = table::end(table, at);
-        case(&table[at..end]);
+        case(rt, &table[at..end])?;
         at = end;
     }
+    Ok(())
 }
 
-fn main() {
-    let mut input = io::large_buffer();
-    let read = io::read_full(STDIN_FILENO, &mut input);
-    cases(&input[..read]);
+fn main(rt: HostRuntime) -> io::Result<()> {
+    let mut input = [0u8; 65536];
+    let read = full_reads::read_full(&mut rt.stdin(), &mut input)?;
+    cases(&rt, &input[..read])
 }

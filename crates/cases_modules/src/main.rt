@@ -5,13 +5,15 @@ mod buffers;
 mod lists;
 mod tries;
 
-fn main() {
-    tries::without_modules();
-    tries::all_added();
-    tries::one_refused();
-    tries::in_room();
-    tries::after_others();
-    tries::on_refused_buffers();
-    tries::to_1023_attributes();
-    tries::beside_single_adds();
+use std::io;
+
+fn main(rt: HostRuntime) -> io::Result<()> {
+    tries::without_modules(&rt)?;
+    tries::all_added(&rt)?;
+    tries::one_refused(&rt)?;
+    tries::in_room(&rt)?;
+    tries::after_others(&rt)?;
+    tries::on_refused_buffers(&rt)?;
+    tries::to_1023_attributes(&rt)?;
+    tries::beside_single_adds(&rt)
 }

@@ -3,6 +3,7 @@ use crate::{given, questions, writing};
 use cases_shared::show;
 use lent_buffers::Part;
 use refusals::Answer;
+use std::io;
 
 // The start and the length of a string, as the numbers `k` and after it.
 fn put_part(numbers: [u64; 23], k: usize, part: Part) -> [u64; 23] {
@@ -42,30 +43,36 @@ fn write(to: &mut [u8; 1024], from: &[u8; 1024]) -> Answer {
     given::write(to, from, numbers)
 }
 
-fn show_copy(buf: &[u8; 1024]) {
-    show::call(b"  read back", handover_reading::read(buf));
-    questions::show_agent(b"  agent", buf);
-    questions::show_record(b"  record 1", buf, 1);
-    questions::show_record(b"  record 2", buf, 2);
+fn show_copy(rt: &impl Print, buf: &[u8; 1024]) -> io::Result<()> {
+    show::call(rt, b"  read back", handover_reading::read(buf))?;
+    questions::show_agent(rt, b"  agent", buf)?;
+    questions::show_record(rt, b"  record 1", buf, 1)?;
+    questions::show_record(rt, b"  record 2", buf, 2)
 }
 
-fn compare(answer: Answer, left: &[u8; 1024], right: &[u8; 1024]) {
+fn compare(
+    rt: &impl Print,
+    answer: Answer,
+    left: &[u8; 1024],
+    right: &[u8; 1024],
+) -> io::Result<()> {
     writing::line(
+        rt,
         b"  written again",
         answer,
         b", bytes that differ ",
         left,
         right,
-    );
+    )
 }
 
 // In buffers of 90s.
-pub fn copy(label: &[u8], pairs: [u64; 6]) {
+pub fn copy(rt: &impl Print, label: &[u8], pairs: [u64; 6]) -> io::Result<()> {
     let from = given::changed(pairs);
     let mut first = [90u8; 1024];
-    show::call(label, write(&mut first, &from));
-    show_copy(&first);
+    show::call(rt, label, write(&mut first, &from))?;
+    show_copy(rt, &first)?;
     let mut second = [90u8; 1024];
     let answer = write(&mut second, &first);
-    compare(answer, &first, &second);
+    compare(rt, answer, &first, &second)
 }

@@ -1,6 +1,7 @@
 // Many records, long strings and buffers longer than the room.
 use crate::{given, writing};
 use cases_shared::show;
+use std::io;
 
 fn put(buf: &mut [u8; 70000], at: u64, number: u64) {
     let place = at as usize;
@@ -21,12 +22,13 @@ fn payload(count: u64, size: u64, agent: u64, end: u64) -> [u8; 70000] {
 }
 
 // The count, the size, the agent, how many bytes are lent, and where there is an end tag.
-pub fn read(label: &[u8], numbers: [u64; 6]) {
+pub fn read(rt: &impl Print, label: &[u8], numbers: [u64; 6]) -> io::Result<()> {
     let buf = payload(numbers[0], numbers[1], numbers[2], numbers[4]);
     show::call(
+        rt,
         label,
         handover_reading::read(given::part(&buf, 0, numbers[3])),
-    );
+    )
 }
 
 // Records of an unknown tag from 16 on, but for a FILE, a CMDLINE, and an END at index 1,023.
@@ -47,12 +49,12 @@ fn numbers(size: u64) -> [u64; 23] {
 }
 
 // That size, and up to two pairs.
-pub fn write(label: &[u8], row: [u64; 6]) {
+pub fn write(rt: &impl Print, label: &[u8], row: [u64; 6]) -> io::Result<()> {
     let from = records();
     let before = [165u8; 70000];
     let mut after = before;
     let pairs = [row[1], row[2], row[3], row[4], 0, 0];
     let lent = given::changed_numbers(numbers(row[0]), pairs);
     let answer = given::write(&mut after, &from, lent);
-    writing::line(label, answer, b", bytes changed ", &before, &after);
+    writing::line(rt, label, answer, b", bytes changed ", &before, &after)
 }

@@ -9,42 +9,43 @@ mod questions;
 mod writing;
 
 use cases_text::table;
-use libc::STDIN_FILENO;
+use std::io;
 
 // The first byte of a row says which kind it is of, and its label is from the third on.
-fn case(row: &[u8]) {
+fn case(rt: &impl Print, row: &[u8]) -> io::Result<()> {
     if row.len() < 2 {
-        return;
+        return Ok(());
     }
     let kind = row[0];
     let label = table::label(&row[2..]);
     let values = table::numbers(row);
     let numbers = values.numbers;
     match kind {
-        b'r' => questions::read(label, numbers),
-        b'a' => questions::agent(label, numbers),
-        b'i' => questions::record(label, numbers),
-        b'w' => writing::write(label, numbers),
-        b's' => writing::same(label, numbers),
-        b'b' => writing::bytes(label, numbers),
-        b'c' => again::copy(label, numbers),
-        b'R' => long::read(label, numbers),
-        b'W' => long::write(label, numbers),
-        _ => {}
+        b'r' => questions::read(rt, label, numbers),
+        b'a' => questions::agent(rt, label, numbers),
+        b'i' => questions::record(rt, label, numbers),
+        b'w' => writing::write(rt, label, numbers),
+        b's' => writing::same(rt, label, numbers),
+        b'b' => writing::bytes(rt, label, numbers),
+        b'c' => again::copy(rt, label, numbers),
+        b'R' => long::read(rt, label, numbers),
+        b'W' => long::write(rt, label, numbers),
+        _ => Ok(()),
     }
 }
 
-fn cases(table: &[u8]) {
+fn cases(rt: &impl Print, table: &[u8]) -> io::Result<()> {
     let mut at = 0;
     while at < table.len() {
         let end = table::end(table, at);
-        case(&table[at..end]);
+        case(rt, &table[at..end])?;
         at = end;
     }
+    Ok(())
 }
 
-fn main() {
-    let mut input = io::large_buffer();
-    let read = io::read_full(STDIN_FILENO, &mut input);
-    cases(&input[..read]);
+fn main(rt: HostRuntime) -> io::Result<()> {
+    let mut input = [0u8; 65536];
+    let read = full_reads::read_full(&mut rt.stdin(), &mut input)?;
+    cases(&rt, &input[..read])
 }

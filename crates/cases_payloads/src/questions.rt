@@ -4,40 +4,44 @@ use cases_shared::show;
 use cases_text::print;
 use handover_format::Record;
 use lent_buffers::Part;
+use std::io;
 
-pub fn read(label: &[u8], pairs: [u64; 6]) {
+pub fn read(rt: &impl Print, label: &[u8], pairs: [u64; 6]) -> io::Result<()> {
     let buf = given::changed(pairs);
     let numbers = given::changed_numbers(given::numbers(), pairs);
     show::call(
+        rt,
         label,
         handover_reading::read(given::part(&buf, 0, numbers[21])),
-    );
+    )
 }
 
 // Where a string is by its part, and the bytes that were handed back.
-fn string(before: &[u8], part: Part, bytes: &[u8]) {
-    print::words(before);
+fn string(rt: &impl Print, before: &[u8], part: Part, bytes: &[u8]) -> io::Result<()> {
+    print::words(rt, before)?;
     print::form(
+        rt,
         b" at # length # \"",
         &[part.start as u64, part.length as u64],
-    );
-    print::words(bytes);
-    print::words(b"\"");
+    )?;
+    print::words(rt, bytes)?;
+    print::words(rt, b"\"")
 }
 
-pub fn show_agent(label: &[u8], buf: &[u8]) {
+pub fn show_agent(rt: &impl Print, label: &[u8], buf: &[u8]) -> io::Result<()> {
     let answer = handover_questions::agent(buf);
     let number = answer.answer;
-    print::words(label);
-    show::answer(number);
-    print::number(b", offset ", answer.offset as u64);
+    print::words(rt, label)?;
+    show::answer(rt, number)?;
+    print::number(rt, b", offset ", answer.offset as u64)?;
     let name = answer.name;
-    string(b", name", name, handover_questions::agent_name(buf));
-    print::words(b"\n");
+    string(rt, b", name", name, handover_questions::agent_name(buf))?;
+    print::words(rt, b"\n")
 }
 
-fn show_words(words: Record) {
+fn show_words(rt: &impl Print, words: Record) -> io::Result<()> {
     print::form(
+        rt,
         b", tag #, flags #, start #, size #, words # #\n",
         &[
             words.tag as u64,
@@ -47,30 +51,40 @@ fn show_words(words: Record) {
             words.name as u64,
             words.meta as u64,
         ],
-    );
+    )
 }
 
-pub fn show_record(label: &[u8], buf: &[u8], index: u64) {
+pub fn show_record(rt: &impl Print, label: &[u8], buf: &[u8], index: u64) -> io::Result<()> {
     let answer = handover_questions::record_at(buf, index);
     let number = answer.answer;
-    print::words(label);
-    show::answer(number);
+    print::words(rt, label)?;
+    show::answer(rt, number)?;
     let words = answer.words;
-    show_words(words);
+    show_words(rt, words)?;
     let name = answer.name;
-    string(b"  name", name, handover_questions::record_name(buf, index));
+    string(
+        rt,
+        b"  name",
+        name,
+        handover_questions::record_name(buf, index),
+    )?;
     let meta = answer.meta;
-    string(b", meta", meta, handover_questions::record_meta(buf, index));
-    print::words(b"\n");
+    string(
+        rt,
+        b", meta",
+        meta,
+        handover_questions::record_meta(buf, index),
+    )?;
+    print::words(rt, b"\n")
 }
 
-pub fn agent(label: &[u8], pairs: [u64; 6]) {
+pub fn agent(rt: &impl Print, label: &[u8], pairs: [u64; 6]) -> io::Result<()> {
     let buf = given::changed(pairs);
-    show_agent(label, &buf);
+    show_agent(rt, label, &buf)
 }
 
-pub fn record(label: &[u8], pairs: [u64; 6]) {
+pub fn record(rt: &impl Print, label: &[u8], pairs: [u64; 6]) -> io::Result<()> {
     let buf = given::changed(pairs);
     let numbers = given::changed_numbers(given::numbers(), pairs);
-    show_record(label, &buf, numbers[22]);
+    show_record(rt, label, &buf, numbers[22])
 }

@@ -3,20 +3,29 @@ use crate::given;
 use cases_shared::show;
 use cases_text::print;
 use refusals::Answer;
+use std::io;
 
 // How many bytes of the two differ, after the answer.
-pub fn line(label: &[u8], answer: Answer, form: &[u8], left: &[u8], right: &[u8]) {
-    print::words(label);
-    show::answer(answer);
+pub fn line(
+    rt: &impl Print,
+    label: &[u8],
+    answer: Answer,
+    form: &[u8],
+    left: &[u8],
+    right: &[u8],
+) -> io::Result<()> {
+    print::words(rt, label)?;
+    show::answer(rt, answer)?;
     print::number(
+        rt,
         form,
         print::differences_in(left, right, 0, left.len()) as u64,
-    );
-    print::words(b"\n");
+    )?;
+    print::words(rt, b"\n")
 }
 
 // As many bytes change as the payload has, or none.
-pub fn write(label: &[u8], pairs: [u64; 6]) {
+pub fn write(rt: &impl Print, label: &[u8], pairs: [u64; 6]) -> io::Result<()> {
     let from = given::changed(pairs);
     let before = [165u8; 1024];
     let mut after = before;
@@ -25,28 +34,35 @@ pub fn write(label: &[u8], pairs: [u64; 6]) {
         &from,
         given::changed_numbers(given::numbers(), pairs),
     );
-    line(label, answer, b", bytes changed ", &before, &after);
+    line(rt, label, answer, b", bytes changed ", &before, &after)
 }
 
 // What is lent is in the written form already, with 165s after it: only offsets that are set can differ.
-pub fn same(label: &[u8], pairs: [u64; 6]) {
+pub fn same(rt: &impl Print, label: &[u8], pairs: [u64; 6]) -> io::Result<()> {
     let from = given::changed(pairs);
     let mut after = [165u8; 1024];
     let answer = given::write(&mut after, &from, given::numbers());
-    line(label, answer, b", bytes unlike those lent ", &from, &after);
+    line(
+        rt,
+        label,
+        answer,
+        b", bytes unlike those lent ",
+        &from,
+        &after,
+    )
 }
 
-fn show_bytes(label: &[u8], answer: Answer, buf: &[u8; 1024]) {
-    print::words(label);
-    show::answer(answer);
-    print::rows(given::part(buf, 0, 176));
-    print::words(b"\n");
+fn show_bytes(rt: &impl Print, label: &[u8], answer: Answer, buf: &[u8; 1024]) -> io::Result<()> {
+    print::words(rt, label)?;
+    show::answer(rt, answer)?;
+    print::rows(rt, given::part(buf, 0, 176))?;
+    print::words(rt, b"\n")
 }
 
 // The bytes themselves, in a buffer of 90s.
-pub fn bytes(label: &[u8], pairs: [u64; 6]) {
+pub fn bytes(rt: &impl Print, label: &[u8], pairs: [u64; 6]) -> io::Result<()> {
     let from = given::changed(pairs);
     let mut after = [90u8; 1024];
     let answer = given::write(&mut after, &from, given::numbers());
-    show_bytes(label, answer, &after);
+    show_bytes(rt, label, answer, &after)
 }

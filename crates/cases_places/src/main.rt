@@ -9,6 +9,7 @@ use adds::add;
 use cases_adds::{changed, context, line};
 use cases_text::table;
 use refusals::Answer;
+use std::io;
 
 // The first `count` of a platform and a kernel.
 fn front(count: u64) -> [u8; 1024] {
@@ -45,25 +46,26 @@ fn add_within(buf: &mut [u8], room: u64, kind: u64, variant: u64) -> Answer {
 
 // What stands there, as three numbers for `attributes`; the room; and the type and the variant of what is added. All of the buffer is
 // compared.
-fn case(row: &[u8]) {
+fn case(rt: &impl Print, row: &[u8]) -> io::Result<()> {
     let values = table::numbers(row);
     let given = values.numbers;
     let before = attributes(given[0], given[1], given[2]);
     let mut after = before;
     let answer = add_within(&mut after, given[3], given[4], given[5]);
-    line(table::label(row), answer, changed(&before, &after));
+    line(rt, table::label(row), answer, changed(&before, &after))
 }
 
-fn cases(table: &[u8]) {
+fn cases(rt: &impl Print, table: &[u8]) -> io::Result<()> {
     let mut at = 0;
     while at < table.len() {
         let end = table::end(table, at);
-        case(&table[at..end]);
+        case(rt, &table[at..end])?;
         at = end;
     }
+    Ok(())
 }
 
-fn main() {
-    places::all();
-    long::all();
+fn main(rt: HostRuntime) -> io::Result<()> {
+    places::all(&rt)?;
+    long::all(&rt)
 }

@@ -1,9 +1,11 @@
 // Each row is given what stands there, the room, and the type and the variant of what is added.
 use crate::cases;
+use std::io;
 
 // First a platform, then a kernel, then neither.
-fn first_and_second() {
+fn first_and_second(rt: &impl Print) -> io::Result<()> {
     cases(
+        rt,
         b"\
         kernel first: 0 0 0 1024 2 0\n\
         map first: 0 0 0 1024 3 1\n\
@@ -21,12 +23,13 @@ fn first_and_second() {
         platform of type 0 third: 2 0 0 1024 1 1\n\
         kernel third: 2 0 0 1024 2 0\n\
         kernel of partition type 0 third: 2 0 0 1024 2 1\n",
-    );
+    )
 }
 
 // Types that stand once, and modules, which stand together.
-fn repeats() {
+fn repeats(rt: &impl Print) -> io::Result<()> {
     cases(
+        rt,
         b"\
         map after a map: 2 3 0 1024 3 1\n\
         map of 4 numbers after a map: 2 3 0 1024 3 2\n\
@@ -41,11 +44,12 @@ fn repeats() {
         module after a module: 2 4 0 1024 4 0\n\
         module after a module and a framebuffer: 2 4 6 1024 4 0\n\
         module of type 0 after a module and a framebuffer: 2 4 6 1024 4 1\n",
-    );
+    )
 }
 
-fn rooms() {
+fn rooms(rt: &impl Print) -> io::Result<()> {
     cases(
+        rt,
         b"\
         platform in 96 bytes: 0 0 0 96 1 0\n\
         platform in 95 bytes: 0 0 0 95 1 0\n\
@@ -59,12 +63,13 @@ fn rooms() {
         map of one entry in 463 bytes: 2 0 0 463 3 1\n\
         map of 4 numbers in 439 bytes: 2 0 0 439 3 2\n\
         map, wrong order, in 439 bytes: 2 0 0 439 3 3\n",
-    );
+    )
 }
 
 // In fewer bytes than the context has, reading refuses it.
-fn more_rooms() {
+fn more_rooms(rt: &impl Print) -> io::Result<()> {
     cases(
+        rt,
         b"\
         module in 528 bytes: 2 0 0 528 4 0\n\
         module in 527 bytes: 2 0 0 527 4 0\n\
@@ -80,12 +85,12 @@ fn more_rooms() {
         framebuffer in 431 bytes: 2 0 0 431 6 0\n\
         framebuffer in 7 bytes: 2 0 0 7 6 0\n\
         framebuffer in 0 bytes: 2 0 0 0 6 0\n",
-    );
+    )
 }
 
-pub fn all() {
-    first_and_second();
-    repeats();
-    rooms();
-    more_rooms();
+pub fn all(rt: &impl Print) -> io::Result<()> {
+    first_and_second(rt)?;
+    repeats(rt)?;
+    rooms(rt)?;
+    more_rooms(rt)
 }

@@ -1,18 +1,20 @@
 // The command line.
 use cases_contexts::build;
 use cases_text::print;
+use std::io;
 
 // With an empty text of the board, as the recovery image asks.
-fn line(label: &[u8], buf: &[u8; 1024]) {
+fn line(rt: &impl Print, label: &[u8], buf: &[u8; 1024]) -> io::Result<()> {
     let part = ultra_questions::command_line_part(buf);
     let text = ultra_questions::command_line(buf, b"");
-    print::words(label);
+    print::words(rt, label)?;
     print::form(
+        rt,
         b": part at # length #, bytes handed back # \"",
         &[part.start as u64, part.length as u64, text.len() as u64],
-    );
-    print::words(text);
-    print::words(b"\"\n");
+    )?;
+    print::words(rt, text)?;
+    print::words(rt, b"\"\n")
 }
 
 // A context with an empty command line of 32 bytes at 432; after it an attribute of type 0, which a count of 4 takes in.
@@ -24,41 +26,41 @@ fn context(buf: &mut [u8; 1024]) {
 }
 
 // The same text in a context, past the count and in a refused buffer.
-fn counts() {
+fn counts(rt: &impl Print) -> io::Result<()> {
     let mut space = [0u8; 1024];
     context(&mut space);
     build::put_bytes(&mut space, 440, b"quiet splash");
-    line(b"text", &space);
+    line(rt, b"text", &space)?;
     build::head(&mut space, 2);
-    line(b"line past the count", &space);
+    line(rt, b"line past the count", &space)?;
     build::head(&mut space, 4);
-    line(b"fourth of type 0", &space);
+    line(rt, b"fourth of type 0", &space)
 }
 
 // Closed by the field's last byte, and by no byte of the field.
-fn full() {
+fn full(rt: &impl Print) -> io::Result<()> {
     let mut space = [0u8; 1024];
     context(&mut space);
     build::put_bytes(&mut space, 440, b"quiet splash, and more.");
-    line(b"text up to its last byte", &space);
+    line(rt, b"text up to its last byte", &space)?;
     build::put_byte(&mut space, 463, b'.');
-    line(b"text that is not closed", &space);
+    line(rt, b"text that is not closed", &space)
 }
 
-fn junk_after() {
+fn junk_after(rt: &impl Print) -> io::Result<()> {
     let mut space = [0u8; 1024];
     context(&mut space);
-    line(b"empty text", &space);
+    line(rt, b"empty text", &space)?;
     build::put(&mut space, 448, 8, 0xa5a5_a5a5_a5a5_a5a5);
     build::put(&mut space, 456, 8, 0xa5a5_a5a5_a5a5_a5a5);
     build::put_bytes(&mut space, 440, b"\0unheard");
-    line(b"empty text, junk after", &space);
+    line(rt, b"empty text, junk after", &space)?;
     build::put_bytes(&mut space, 440, b"ro\0rw\0\xa5\xa5");
-    line(b"text, junk after", &space);
+    line(rt, b"text, junk after", &space)
 }
 
 // A command line after two attributes of type 7 and a map of no ranges.
-fn after_others() {
+fn after_others(rt: &impl Print) -> io::Result<()> {
     let mut space = [0u8; 1024];
     build::head(&mut space, 6);
     build::platform_and_kernel(&mut space, 88);
@@ -67,50 +69,57 @@ fn after_others() {
     build::header(&mut space, 456, 3, 8);
     build::header(&mut space, 464, 5, 16);
     build::put_bytes(&mut space, 472, b"1234567\0");
-    line(b"line after others", &space);
+    line(rt, b"line after others", &space)
 }
 
 // With a text of the board; every byte that is handed back is printed, zeros too.
-fn line_or<'a>(label: &[u8], given: &[u8], buf: &'a [u8; 1024], board: &'a [u8]) {
+fn line_or<'a>(
+    rt: &impl Print,
+    label: &[u8],
+    given: &[u8],
+    buf: &'a [u8; 1024],
+    board: &'a [u8],
+) -> io::Result<()> {
     let part = ultra_questions::command_line_part(buf);
     let text = ultra_questions::command_line(buf, board);
-    print::words(label);
-    print::words(given);
+    print::words(rt, label)?;
+    print::words(rt, given)?;
     print::form(
+        rt,
         b": part at # length #, # bytes handed back",
         &[part.start as u64, part.length as u64, text.len() as u64],
-    );
-    print::bytes(text);
-    print::words(b"\n");
+    )?;
+    print::bytes(rt, text)?;
+    print::words(rt, b"\n")
 }
 
-fn with_boards(label: &[u8], buf: &[u8; 1024]) {
-    line_or(label, b", board has a text", buf, b"tty");
-    line_or(label, b", board has an empty text", buf, b"");
-    line_or(label, b", board has zero bytes", buf, b"\0a\0");
-    line_or(label, b", board has no ASCII", buf, b"\x80\xff");
-    line_or(label, b", board has the line and its zero", buf, b"ro\0");
+fn with_boards(rt: &impl Print, label: &[u8], buf: &[u8; 1024]) -> io::Result<()> {
+    line_or(rt, label, b", board has a text", buf, b"tty")?;
+    line_or(rt, label, b", board has an empty text", buf, b"")?;
+    line_or(rt, label, b", board has zero bytes", buf, b"\0a\0")?;
+    line_or(rt, label, b", board has no ASCII", buf, b"\x80\xff")?;
+    line_or(rt, label, b", board has the line and its zero", buf, b"ro\0")
 }
 
 // A line, an empty one, none, and one in a refused buffer.
-fn boards() {
+fn boards(rt: &impl Print) -> io::Result<()> {
     let mut space = [0u8; 1024];
     context(&mut space);
     build::put_bytes(&mut space, 440, b"ro");
-    with_boards(b"line", &space);
+    with_boards(rt, b"line", &space)?;
     build::head(&mut space, 4);
-    with_boards(b"line of a refused context", &space);
+    with_boards(rt, b"line of a refused context", &space)?;
     build::head(&mut space, 2);
-    with_boards(b"no line", &space);
+    with_boards(rt, b"no line", &space)?;
     build::head(&mut space, 3);
     build::put_byte(&mut space, 440, 0);
-    with_boards(b"empty line", &space);
+    with_boards(rt, b"empty line", &space)
 }
 
-pub fn all() {
-    counts();
-    full();
-    junk_after();
-    after_others();
-    boards();
+pub fn all(rt: &impl Print) -> io::Result<()> {
+    counts(rt)?;
+    full(rt)?;
+    junk_after(rt)?;
+    after_others(rt)?;
+    boards(rt)
 }

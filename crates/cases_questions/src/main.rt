@@ -7,6 +7,7 @@ mod maps;
 mod modules;
 
 use cases_text::table;
+use std::io;
 
 // What a table's rows are given.
 #[derive(Clone, Copy)]
@@ -22,34 +23,35 @@ enum Kind {
     ModuleAndTypeZero,
 }
 
-fn case(kind: Kind, row: &[u8]) {
+fn case(rt: &impl Print, kind: Kind, row: &[u8]) -> io::Result<()> {
     let label = table::label(row);
     let values = table::numbers(row);
     let given = values.numbers;
     match kind {
-        Kind::MapOfTwo => maps::of_two(label, given),
-        Kind::NoMap => maps::none(label, given),
-        Kind::NoEntries => maps::of_none(label, given),
-        Kind::MapAndTypeZero => maps::and_type_zero(label, given),
-        Kind::OneModule => modules::one(label, given),
-        Kind::TwoModules => modules::two(label, given),
-        Kind::NoModule => modules::none(label, given),
-        Kind::SevenAndModule => modules::seven_and_module(label, given),
-        Kind::ModuleAndTypeZero => modules::and_type_zero(label, given),
+        Kind::MapOfTwo => maps::of_two(rt, label, given),
+        Kind::NoMap => maps::none(rt, label, given),
+        Kind::NoEntries => maps::of_none(rt, label, given),
+        Kind::MapAndTypeZero => maps::and_type_zero(rt, label, given),
+        Kind::OneModule => modules::one(rt, label, given),
+        Kind::TwoModules => modules::two(rt, label, given),
+        Kind::NoModule => modules::none(rt, label, given),
+        Kind::SevenAndModule => modules::seven_and_module(rt, label, given),
+        Kind::ModuleAndTypeZero => modules::and_type_zero(rt, label, given),
     }
 }
 
-fn cases(kind: Kind, table: &[u8]) {
+fn cases(rt: &impl Print, kind: Kind, table: &[u8]) -> io::Result<()> {
     let mut at = 0;
     while at < table.len() {
         let end = table::end(table, at);
-        case(kind, &table[at..end]);
+        case(rt, kind, &table[at..end])?;
         at = end;
     }
+    Ok(())
 }
 
-fn main() {
-    maps::all();
-    lines::all();
-    modules::all();
+fn main(rt: HostRuntime) -> io::Result<()> {
+    maps::all(&rt)?;
+    lines::all(&rt)?;
+    modules::all(&rt)
 }

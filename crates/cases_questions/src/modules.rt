@@ -3,12 +3,13 @@ use crate::{Kind, cases};
 use cases_contexts::build;
 use cases_shared::show;
 use cases_text::print;
+use std::io;
 
-fn ask(label: &[u8], buf: &[u8; 1024], address: u64) {
-    print::words(label);
-    print::number(b", address ", address);
-    show::answer(ultra_questions::module_holding(buf, address));
-    print::words(b"\n");
+fn ask(rt: &impl Print, label: &[u8], buf: &[u8; 1024], address: u64) -> io::Result<()> {
+    print::words(rt, label)?;
+    print::number(rt, b", address ", address)?;
+    show::answer(rt, ultra_questions::module_holding(buf, address))?;
+    print::words(rt, b"\n")
 }
 
 fn with_one(count: u64, address: u64, size: u64) -> [u8; 1024] {
@@ -20,13 +21,14 @@ fn with_one(count: u64, address: u64, size: u64) -> [u8; 1024] {
 }
 
 // The module's address and size, and the address asked for.
-pub fn one(label: &[u8], given: [u64; 6]) {
+pub fn one(rt: &impl Print, label: &[u8], given: [u64; 6]) -> io::Result<()> {
     let buf = with_one(3, given[0], given[1]);
-    ask(label, &buf, given[2]);
+    ask(rt, label, &buf, given[2])
 }
 
-fn ones() {
+fn ones(rt: &impl Print) -> io::Result<()> {
     cases(
+        rt,
         Kind::OneModule,
         b"\
         module of 5000 at 2097152: 2097152 5000 2097151\n\
@@ -69,7 +71,7 @@ fn ones() {
         module of 2^64 - 1 at 0: 0 18446744073709551615 0\n\
         module of 2^64 - 1 at 0: 0 18446744073709551615 18446744073709551614\n\
         module of 2^64 - 1 at 0: 0 18446744073709551615 18446744073709551615\n",
-    );
+    )
 }
 
 fn with_two(first: u64, first_size: u64, second: u64, second_size: u64) -> [u8; 1024] {
@@ -79,13 +81,14 @@ fn with_two(first: u64, first_size: u64, second: u64, second_size: u64) -> [u8; 
 }
 
 // The address and the size of each of two modules, and the address asked for.
-pub fn two(label: &[u8], given: [u64; 6]) {
+pub fn two(rt: &impl Print, label: &[u8], given: [u64; 6]) -> io::Result<()> {
     let buf = with_two(given[0], given[1], given[2], given[3]);
-    ask(label, &buf, given[4]);
+    ask(rt, label, &buf, given[4])
 }
 
-fn twos() {
+fn twos(rt: &impl Print) -> io::Result<()> {
     cases(
+        rt,
         Kind::TwoModules,
         b"\
         second starts lower: 8192 8192 4096 8192 4095\n\
@@ -107,54 +110,57 @@ fn twos() {
         one page after the other: 4096 1 8192 1 8192\n\
         one page after the other: 4096 1 8192 1 12287\n\
         one page after the other: 4096 1 8192 1 12288\n",
-    );
+    )
 }
 
 // In place of the first module an attribute of type 7 with the same bytes.
-pub fn seven_and_module(label: &[u8], given: [u64; 6]) {
+pub fn seven_and_module(rt: &impl Print, label: &[u8], given: [u64; 6]) -> io::Result<()> {
     let mut buf = with_two(8192, 8192, 12288, 8192);
     build::header(&mut buf, 432, 7, 96);
-    ask(label, &buf, given[0]);
+    ask(rt, label, &buf, given[0])
 }
 
 // The kernel's bytes 80..95, where a module has its address and size, hold 47 and 4096; and the module is past the count.
-pub fn none(label: &[u8], given: [u64; 6]) {
+pub fn none(rt: &impl Print, label: &[u8], given: [u64; 6]) -> io::Result<()> {
     let mut buf = with_one(2, 4096, 4096);
     build::put(&mut buf, 184, 8, 4096);
-    ask(label, &buf, given[0]);
+    ask(rt, label, &buf, given[0])
 }
 
 // The first module is sound and holds the address, and what follows it is refused.
-pub fn and_type_zero(label: &[u8], given: [u64; 6]) {
+pub fn and_type_zero(rt: &impl Print, label: &[u8], given: [u64; 6]) -> io::Result<()> {
     let mut buf = with_one(4, 4096, 4096);
     build::header(&mut buf, 528, 0, 8);
-    ask(label, &buf, given[0]);
+    ask(rt, label, &buf, given[0])
 }
 
-fn others() {
+fn others(rt: &impl Print) -> io::Result<()> {
     cases(
+        rt,
         Kind::SevenAndModule,
         b"\
         type 7 that looks like a module: 8192\n\
         type 7 that looks like a module: 12288\n",
-    );
+    )?;
     cases(
+        rt,
         Kind::NoModule,
         b"\
         no module: 0\n\
         no module: 47\n\
         no module: 4096\n",
-    );
+    )?;
     cases(
+        rt,
         Kind::ModuleAndTypeZero,
         b"\
         fourth of type 0: 4096\n\
         fourth of type 0: 0\n",
-    );
+    )
 }
 
-pub fn all() {
-    ones();
-    twos();
-    others();
+pub fn all(rt: &impl Print) -> io::Result<()> {
+    ones(rt)?;
+    twos(rt)?;
+    others(rt)
 }

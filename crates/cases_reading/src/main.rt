@@ -8,6 +8,7 @@ mod steps;
 
 use cases_shared::show;
 use cases_text::table;
+use std::io;
 
 // What a table's rows are given.
 #[derive(Clone, Copy)]
@@ -25,49 +26,51 @@ enum Kind {
     Step,
 }
 
-fn case(kind: Kind, row: &[u8]) {
+fn case(rt: &impl Print, kind: Kind, row: &[u8]) -> io::Result<()> {
     let label = table::label(row);
     let values = table::numbers(row);
     let numbers = values.numbers;
     match kind {
-        Kind::TwoRanges => contexts::two_ranges(label, numbers),
-        Kind::OneRange => contexts::one_range(label, numbers),
-        Kind::ThreeTypes => contexts::three_types(label, numbers),
-        Kind::Platform => contexts::platform(label, numbers),
-        Kind::Third => contexts::third(label, numbers),
-        Kind::LongThird => contexts::long_third(label, numbers),
-        Kind::Number => members::number(label, numbers),
-        Kind::Halves => members::halves(label, numbers),
-        Kind::Pixels => members::pixels(label, numbers),
-        Kind::Byte => members::byte(label, numbers),
-        Kind::Step => steps::step(label, numbers),
+        Kind::TwoRanges => contexts::two_ranges(rt, label, numbers),
+        Kind::OneRange => contexts::one_range(rt, label, numbers),
+        Kind::ThreeTypes => contexts::three_types(rt, label, numbers),
+        Kind::Platform => contexts::platform(rt, label, numbers),
+        Kind::Third => contexts::third(rt, label, numbers),
+        Kind::LongThird => contexts::long_third(rt, label, numbers),
+        Kind::Number => members::number(rt, label, numbers),
+        Kind::Halves => members::halves(rt, label, numbers),
+        Kind::Pixels => members::pixels(rt, label, numbers),
+        Kind::Byte => members::byte(rt, label, numbers),
+        Kind::Step => steps::step(rt, label, numbers),
     }
 }
 
-fn cases(kind: Kind, table: &[u8]) {
+fn cases(rt: &impl Print, kind: Kind, table: &[u8]) -> io::Result<()> {
     let mut at = 0;
     while at < table.len() {
         let end = table::end(table, at);
-        case(kind, &table[at..end]);
+        case(rt, kind, &table[at..end])?;
         at = end;
     }
+    Ok(())
 }
 
 // Reads the first `length` bytes.
-fn read_first(label: &[u8], buf: &[u8], length: u64) {
+fn read_first(rt: &impl Print, label: &[u8], buf: &[u8], length: u64) -> io::Result<()> {
     let end = length as usize;
     if end <= buf.len() {
-        show::reading(label, ultra_reading::read(&buf[0..end]));
+        show::reading(rt, label, ultra_reading::read(&buf[0..end]))?;
     }
+    Ok(())
 }
 
 // The same of an array, whose length its type says.
-fn read(label: &[u8], buf: &[u8; 1024], length: u64) {
-    read_first(label, buf, length);
+fn read(rt: &impl Print, label: &[u8], buf: &[u8; 1024], length: u64) -> io::Result<()> {
+    read_first(rt, label, buf, length)
 }
 
-fn main() {
-    contexts::all();
-    members::all();
-    steps::all();
+fn main(rt: HostRuntime) -> io::Result<()> {
+    contexts::all(&rt)?;
+    members::all(&rt)?;
+    steps::all(&rt)
 }

@@ -2,6 +2,7 @@
 // same rules in cases_adding.
 use crate::{Kind, cases, read};
 use cases_contexts::build;
+use std::io;
 
 // A platform, a kernel, a module, a command line and a framebuffer, in 576 bytes. Each text fills its field up to the closing zero, at 55,
 // 431, 511 and 543: what is not written is a slash. The kernel has 8,192 bytes, the module one at 4,096.
@@ -44,39 +45,40 @@ fn base() -> [u8; 1024] {
 }
 
 // A number of 8 bytes: where, and which.
-pub fn number(label: &[u8], given: [u64; 6]) {
+pub fn number(rt: &impl Print, label: &[u8], given: [u64; 6]) -> io::Result<()> {
     let mut buf = base();
     build::put(&mut buf, given[0], 8, given[1]);
-    read(label, &buf, 1024);
+    read(rt, label, &buf, 1024)
 }
 
 // Two numbers of 4 bytes, one after the other: where, and which.
-pub fn halves(label: &[u8], given: [u64; 6]) {
+pub fn halves(rt: &impl Print, label: &[u8], given: [u64; 6]) -> io::Result<()> {
     let mut buf = base();
     build::header(&mut buf, given[0], given[1], given[2]);
-    read(label, &buf, 1024);
+    read(rt, label, &buf, 1024)
 }
 
 // A framebuffer's pitch, bits and format.
-pub fn pixels(label: &[u8], given: [u64; 6]) {
+pub fn pixels(rt: &impl Print, label: &[u8], given: [u64; 6]) -> io::Result<()> {
     let mut buf = base();
     build::put(&mut buf, 560, 4, given[0]);
     build::put(&mut buf, 564, 2, given[1]);
     build::put(&mut buf, 566, 2, given[2]);
-    read(label, &buf, 1024);
+    read(rt, label, &buf, 1024)
 }
 
 // A byte: where, and which.
-pub fn byte(label: &[u8], given: [u64; 6]) {
+pub fn byte(rt: &impl Print, label: &[u8], given: [u64; 6]) -> io::Result<()> {
     let mut buf = base();
     build::put(&mut buf, given[0], 1, given[1]);
-    read(label, &buf, 1024);
+    read(rt, label, &buf, 1024)
 }
 
 // The physical base is at 104, the virtual one at 112, the size at 120.
-fn kernels() {
-    cases(Kind::Halves, b"kernel of 328 bytes: 96 2 328\n");
+fn kernels(rt: &impl Print) -> io::Result<()> {
+    cases(rt, Kind::Halves, b"kernel of 328 bytes: 96 2 328\n")?;
     cases(
+        rt,
         Kind::Number,
         b"\
         kernel at physical 2048: 104 2048\n\
@@ -90,19 +92,21 @@ fn kernels() {
         kernel, physical end above: 104 18446744073709547520\n\
         kernel, virtual end at 2^64: 112 18446744073709543424\n\
         kernel, virtual end above: 112 18446744073709547520\n",
-    );
+    )
 }
 
 // The type is at 444, after 4 reserved bytes; the address is at 512, the size at 520.
-fn modules() {
+fn modules(rt: &impl Print) -> io::Result<()> {
     cases(
+        rt,
         Kind::Halves,
         b"\
         module of type 0: 440 0 0\n\
         module of type 2: 440 0 2\n\
         module of type 3: 440 0 3\n",
-    );
+    )?;
     cases(
+        rt,
         Kind::Number,
         b"\
         module at 2048: 512 2048\n\
@@ -110,12 +114,13 @@ fn modules() {
         module whose last page ends at 2^64: 520 18446744073709543425\n\
         module that ends at 2^64: 520 18446744073709547520\n\
         module that ends one past 2^64: 520 18446744073709547521\n",
-    );
+    )
 }
 
 // The address is at 568.
-fn framebuffers() {
+fn framebuffers(rt: &impl Print) -> io::Result<()> {
     cases(
+        rt,
         Kind::Pixels,
         b"\
         format 0, 24 bits: 4 24 0\n\
@@ -128,17 +133,19 @@ fn framebuffers() {
         format 5, 24 bits: 4 24 5\n\
         format 5, 32 bits: 4 32 5\n\
         pitch 3 for 32 bits: 3 32 3\n",
-    );
+    )?;
     cases(
+        rt,
         Kind::Number,
         b"\
         framebuffer that ends at 2^64: 568 18446744073709551612\n\
         framebuffer that ends one past 2^64: 568 18446744073709551613\n",
-    );
+    )
 }
 
-fn texts() {
+fn texts(rt: &impl Print) -> io::Result<()> {
     cases(
+        rt,
         Kind::Byte,
         b"\
         platform name of 32 bytes: 55 47\n\
@@ -155,12 +162,12 @@ fn texts() {
         path with byte 255: 177 255\n\
         path without its slash: 176 98\n\
         path of 0 bytes: 176 0\n",
-    );
+    )
 }
 
-pub fn all() {
-    kernels();
-    modules();
-    framebuffers();
-    texts();
+pub fn all(rt: &impl Print) -> io::Result<()> {
+    kernels(rt)?;
+    modules(rt)?;
+    framebuffers(rt)?;
+    texts(rt)
 }

@@ -2,6 +2,7 @@
 use crate::{Kind, cases};
 use cases_contexts::build;
 use cases_shared::show;
+use std::io;
 use ultra_reading::Cursor;
 
 // A context, and headers after it that no rule allows or that stand out of place.
@@ -18,22 +19,29 @@ fn space() -> [u8; 1024] {
     buf
 }
 
-fn step_from(label: &[u8], buf: &[u8; 1024], index: u64, offset: u64) {
+fn step_from(
+    rt: &impl Print,
+    label: &[u8],
+    buf: &[u8; 1024],
+    index: u64,
+    offset: u64,
+) -> io::Result<()> {
     let cursor = Cursor {
         index: (index % 4294967296) as u32,
         offset: (offset % 4294967296) as u32,
     };
-    show::step(label, cursor.step(buf));
+    show::step(rt, label, cursor.step(buf))
 }
 
 // The cursor's index and offset.
-pub fn step(label: &[u8], given: [u64; 6]) {
+pub fn step(rt: &impl Print, label: &[u8], given: [u64; 6]) -> io::Result<()> {
     let buf = space();
-    step_from(label, &buf, given[0], given[1]);
+    step_from(rt, label, &buf, given[0], given[1])
 }
 
-pub fn all() {
+pub fn all(rt: &impl Print) -> io::Result<()> {
     cases(
+        rt,
         Kind::Step,
         b"\
         step 0 at 8: 0 8\n\
@@ -51,5 +59,5 @@ pub fn all() {
         step 0 at 528, type 0: 0 528\n\
         step 0 at 536, size 4294967288: 0 536\n\
         step 0 at 544, a kernel out of place: 0 544\n",
-    );
+    )
 }

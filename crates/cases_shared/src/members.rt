@@ -1,76 +1,79 @@
 // The members of a record, line by line.
 use cases_text::print;
+use std::io;
 use ultra_format::{
     FramebufferRecord, KernelRecord, ModuleRecord, OptionalU8, OptionalU64, PlatformRecord, Records,
 };
 
-fn optional_u64(before: &[u8], member: OptionalU64) {
-    print::words(before);
+fn optional_u64(rt: &impl Print, before: &[u8], member: OptionalU64) -> io::Result<()> {
+    print::words(rt, before)?;
     match member {
-        OptionalU64::Present(value) => print::number(b" ", value),
-        OptionalU64::Absent => print::words(b" -"),
+        OptionalU64::Present(value) => print::number(rt, b" ", value),
+        OptionalU64::Absent => print::words(rt, b" -"),
     }
 }
 
-fn optional_u8(before: &[u8], member: OptionalU8) {
-    print::words(before);
+fn optional_u8(rt: &impl Print, before: &[u8], member: OptionalU8) -> io::Result<()> {
+    print::words(rt, before)?;
     match member {
-        OptionalU8::Present(value) => print::number(b" ", value as u64),
-        OptionalU8::Absent => print::words(b" -"),
+        OptionalU8::Present(value) => print::number(rt, b" ", value as u64),
+        OptionalU8::Absent => print::words(rt, b" -"),
     }
 }
 
 // A callee that names the array's length owes no proof of it.
-fn platform_name(name: &[u8; 32]) {
-    print::words(b", name ");
-    print::field(name);
+fn platform_name(rt: &impl Print, name: &[u8; 32]) -> io::Result<()> {
+    print::words(rt, b", name ")?;
+    print::field(rt, name)
 }
 
-fn module_name(name: &[u8; 64]) {
-    print::words(b", name ");
-    print::field(name);
+fn module_name(rt: &impl Print, name: &[u8; 64]) -> io::Result<()> {
+    print::words(rt, b", name ")?;
+    print::field(rt, name)
 }
 
-fn guid(before: &[u8], guid: &[u8; 16]) {
-    print::words(before);
-    print::bytes(guid);
+fn guid(rt: &impl Print, before: &[u8], guid: &[u8; 16]) -> io::Result<()> {
+    print::words(rt, before)?;
+    print::bytes(rt, guid)
 }
 
-fn path(path: &[u8; 256]) {
-    print::words(b"\n  path ");
-    print::field(path);
+fn path(rt: &impl Print, path: &[u8; 256]) -> io::Result<()> {
+    print::words(rt, b"\n  path ")?;
+    print::field(rt, path)
 }
 
 // The members that a platform may lack.
-fn late_members(record: PlatformRecord) {
+fn late_members(rt: &impl Print, record: PlatformRecord) -> io::Result<()> {
     let higher_half_base = record.higher_half_base;
-    optional_u64(b"\n  higher half base", higher_half_base);
+    optional_u64(rt, b"\n  higher half base", higher_half_base)?;
     let depth = record.depth;
-    optional_u8(b", depth", depth);
+    optional_u8(rt, b", depth", depth)?;
     let dtb = record.dtb;
-    optional_u64(b", dtb", dtb);
+    optional_u64(rt, b", dtb", dtb)?;
     let smbios = record.smbios;
-    optional_u64(b", smbios", smbios);
-    print::words(b"\n");
+    optional_u64(rt, b", smbios", smbios)?;
+    print::words(rt, b"\n")
 }
 
-pub fn platform(record: PlatformRecord) {
+pub fn platform(rt: &impl Print, record: PlatformRecord) -> io::Result<()> {
     print::form(
+        rt,
         b"  platform type #, loader #.#",
         &[
             record.kind as u64,
             record.loader_major as u64,
             record.loader_minor as u64,
         ],
-    );
+    )?;
     let name = record.name;
-    platform_name(&name);
-    print::number(b", rsdp ", record.rsdp);
-    late_members(record);
+    platform_name(rt, &name)?;
+    print::number(rt, b", rsdp ", record.rsdp)?;
+    late_members(rt, record)
 }
 
-pub fn kernel(record: KernelRecord) {
+pub fn kernel(rt: &impl Print, record: KernelRecord) -> io::Result<()> {
     print::form(
+        rt,
         b"  kernel physical base #, virtual base #, size #\n  partition type #, disk #, partition #",
         &[
             record.physical_base,
@@ -80,25 +83,26 @@ pub fn kernel(record: KernelRecord) {
             record.disk_index as u64,
             record.partition_index as u64,
         ],
-    );
+    )?;
     let disk_guid = record.disk_guid;
-    guid(b"\n  disk guid", &disk_guid);
+    guid(rt, b"\n  disk guid", &disk_guid)?;
     let partition_guid = record.partition_guid;
-    guid(b"\n  partition guid", &partition_guid);
+    guid(rt, b"\n  partition guid", &partition_guid)?;
     let kernel_path = record.path;
-    path(&kernel_path);
-    print::words(b"\n");
+    path(rt, &kernel_path)?;
+    print::words(rt, b"\n")
 }
 
-pub fn module(record: ModuleRecord) {
-    print::number(b"  module type ", record.kind as u64);
+pub fn module(rt: &impl Print, record: ModuleRecord) -> io::Result<()> {
+    print::number(rt, b"  module type ", record.kind as u64)?;
     let name = record.name;
-    module_name(&name);
-    print::form(b", address #, size #\n", &[record.address, record.size]);
+    module_name(rt, &name)?;
+    print::form(rt, b", address #, size #\n", &[record.address, record.size])
 }
 
-pub fn framebuffer(record: FramebufferRecord) {
+pub fn framebuffer(rt: &impl Print, record: FramebufferRecord) -> io::Result<()> {
     print::form(
+        rt,
         b"  framebuffer width #, height #, pitch #, bpp #, format #, address #\n",
         &[
             record.width as u64,
@@ -108,28 +112,28 @@ pub fn framebuffer(record: FramebufferRecord) {
             record.format as u64,
             record.address,
         ],
-    );
+    )
 }
 
 // The members of the attribute's own record; of types 3, 5 and 7 there is none.
-pub fn own(kind: u32, records: Records) {
+pub fn own(rt: &impl Print, kind: u32, records: Records) -> io::Result<()> {
     match kind {
         1 => {
             let record = records.platform;
-            platform(record)
+            platform(rt, record)
         }
         2 => {
             let record = records.kernel;
-            kernel(record)
+            kernel(rt, record)
         }
         4 => {
             let record = records.module;
-            module(record)
+            module(rt, record)
         }
         6 => {
             let record = records.framebuffer;
-            framebuffer(record)
+            framebuffer(rt, record)
         }
-        _ => {}
+        _ => Ok(()),
     }
 }

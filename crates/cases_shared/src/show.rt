@@ -1,47 +1,51 @@
 // Parts of the lines that programs print for answers.
 use cases_text::print;
 use refusals::{Answer, Refusal};
+use std::io;
 use ultra_reading::{Header, Reading, Step};
 
-pub fn refusal(refusal: Refusal) {
+pub fn refusal(rt: &impl Print, refusal: Refusal) -> io::Result<()> {
     print::form(
+        rt,
         b": refused # at #",
         &[refusal.number as u64, refusal.offset as u64],
-    );
+    )
 }
 
-pub fn answer(answer: Answer) {
+pub fn answer(rt: &impl Print, answer: Answer) -> io::Result<()> {
     match answer {
-        Answer::Done(value) => print::number(b": done ", value as u64),
-        Answer::Refused(r) => refusal(r),
+        Answer::Done(value) => print::number(rt, b": done ", value as u64),
+        Answer::Refused(r) => refusal(rt, r),
     }
 }
 
 // What a call answers, on a line of its own.
-pub fn call(label: &[u8], res: Answer) {
-    print::words(label);
-    answer(res);
-    print::words(b"\n");
+pub fn call(rt: &impl Print, label: &[u8], res: Answer) -> io::Result<()> {
+    print::words(rt, label)?;
+    answer(rt, res)?;
+    print::words(rt, b"\n")
 }
 
 // What reading answers, the same.
-pub fn reading(label: &[u8], answer: Reading) {
-    print::words(label);
+pub fn reading(rt: &impl Print, label: &[u8], answer: Reading) -> io::Result<()> {
+    print::words(rt, label)?;
     match answer {
         Reading::Accepted(version, used) => print::form(
+            rt,
             b": version #.#, used #",
             &[version.major as u64, version.minor as u64, used as u64],
         ),
-        Reading::Refused(r) => refusal(r),
-    }
-    print::words(b"\n");
+        Reading::Refused(r) => refusal(rt, r),
+    }?;
+    print::words(rt, b"\n")
 }
 
 // What a step answers, the same.
-pub fn step(label: &[u8], answer: Step) {
-    print::words(label);
+pub fn step(rt: &impl Print, label: &[u8], answer: Step) -> io::Result<()> {
+    print::words(rt, label)?;
     match answer {
         Step::Attribute(header, next) => print::form(
+            rt,
             b": type # at # size #, next # at #",
             &[
                 header.kind as u64,
@@ -51,16 +55,17 @@ pub fn step(label: &[u8], answer: Step) {
                 next.offset as u64,
             ],
         ),
-        Step::End => print::words(b": end"),
-        Step::Refused(r) => refusal(r),
-    }
-    print::words(b"\n");
+        Step::End => print::words(rt, b": end"),
+        Step::Refused(r) => refusal(rt, r),
+    }?;
+    print::words(rt, b"\n")
 }
 
 // Where an attribute is, after its answer.
-pub fn header(header: Header) {
+pub fn header(rt: &impl Print, header: Header) -> io::Result<()> {
     print::form(
+        rt,
         b", type # at # size #\n",
         &[header.kind as u64, header.start as u64, header.size as u64],
-    );
+    )
 }

@@ -1,80 +1,77 @@
 // Parts of the lines that programs print.
-ghost use Rattle.std.specs.Prelude.{◌+◌, ◌<◌, ◌≤◌, length};
+ghost use Rattle.std.specs.Prelude.{◌+◌, ◌<◌, ◌≤◌, IfOk, length};
 
-use libc::STDOUT_FILENO;
+use std::io;
 
 // The bytes as they are.
-pub fn words(bytes: &[u8]) {
-    io::write_all(STDOUT_FILENO, bytes);
+pub fn words(rt: &impl Print, bytes: &[u8]) -> io::Result<()> {
+    rt.write_all(bytes)
 }
 
-pub fn number(before: &[u8], number: u64) {
-    io::write_all(STDOUT_FILENO, before);
-    io::print_decimal(STDOUT_FILENO, number);
+pub fn number(rt: &impl Print, before: &[u8], number: u64) -> io::Result<()> {
+    rt.write_all(before)?;
+    rt.print(number)
 }
 
 // A byte of a form: as it is, or the next of the numbers for a `#`. Answers how many of them are printed.
-fn form_byte(byte: u8, numbers: &[u64], printed: usize) -> usize {
+fn form_byte(rt: &impl Print, byte: u8, numbers: &[u64], printed: usize) -> io::Result<usize> {
     let one = [byte];
     if byte != b'#' {
-        words(&one);
-        return printed;
+        words(rt, &one)?;
+        return Ok(printed);
     }
     if numbers.len() <= printed {
-        return printed;
+        return Ok(printed);
     }
-    io::print_decimal(STDOUT_FILENO, numbers[printed]);
-    printed + 1
+    rt.print(numbers[printed])?;
+    Ok(printed + 1)
 }
 
 // The form, with the numbers in place of its `#`s.
-pub fn form(form: &[u8], numbers: &[u64]) {
+pub fn form(rt: &impl Print, form: &[u8], numbers: &[u64]) -> io::Result<()> {
     let mut printed = 0;
-    let mut i = 0;
-    while i < form.len() {
-        printed = form_byte(form[i], numbers, printed);
-        i += 1;
+    for byte in form {
+        printed = form_byte(rt, *byte, numbers, printed)?;
     }
+    Ok(())
 }
 
-fn byte(byte: u8) {
-    number(b" ", byte as u64);
+fn byte(rt: &impl Print, byte: u8) -> io::Result<()> {
+    number(rt, b" ", byte as u64)
 }
 
 // Each byte as a number, after a blank.
-pub fn bytes(bytes: &[u8]) {
-    let mut i = 0;
-    while i < bytes.len() {
-        byte(bytes[i]);
-        i += 1;
+pub fn bytes(rt: &impl Print, bytes: &[u8]) -> io::Result<()> {
+    for one in bytes {
+        byte(rt, *one)?;
     }
+    Ok(())
 }
 
 // Each number, after a blank.
-pub fn numbers(numbers: &[u64]) {
-    let mut i = 0;
-    while i < numbers.len() {
-        number(b" ", numbers[i]);
-        i += 1;
+pub fn numbers(rt: &impl Print, numbers: &[u64]) -> io::Result<()> {
+    for one in numbers {
+        number(rt, b" ", *one)?;
     }
+    Ok(())
 }
 
 // The offset, before the first byte of a row.
-fn row(at: usize) {
+fn row(rt: &impl Print, at: usize) -> io::Result<()> {
     if at % 16 == 0 {
-        number(b"\n  ", at as u64);
-        words(b":");
+        number(rt, b"\n  ", at as u64)?;
+        words(rt, b":")?;
     }
+    Ok(())
 }
 
 // The same in rows of sixteen, each on a line of its own with the offset in front.
-pub fn rows(bytes: &[u8]) {
-    let mut i = 0;
-    while i < bytes.len() {
-        row(i);
-        byte(bytes[i]);
-        i += 1;
+pub fn rows(rt: &impl Print, bytes: &[u8]) -> io::Result<()> {
+    for i in 0..bytes.len() {
+        row(rt, i)?;
+        byte(rt, bytes[i])?;
     }
+    Ok(())
 }
 
 // 1 for two bytes that differ.
@@ -115,31 +112,31 @@ pub fn differences_in(left: &[u8], right: &[u8], start: usize, end: usize) -> us
 }
 
 // A byte of a field: as it is in the text, `!` if it is not zero although a zero came before. Answers how many zeros there are so far.
-fn field_byte(byte: u8, zeros: u64) -> u64
+fn field_byte(rt: &impl Print, byte: u8, zeros: u64) -> io::Result<u64>
     requires { zeros < 256 }
-    ensures { result ≤ zeros + 1 }
+    ensures { IfOk result (λ n. n ≤ zeros + 1) }
 {
     if byte == 0 {
-        return zeros + 1;
+        return Ok(zeros + 1);
     }
     let one = [byte];
     if zeros == 0 {
-        words(&one);
+        words(rt, &one)?;
     } else {
-        words(b"!");
+        words(rt, b"!")?;
     }
-    zeros
+    Ok(zeros)
 }
 
 // A field with a text in it: every byte is shown, or counted as a zero.
-pub fn field(bytes: &[u8])
+pub fn field(rt: &impl Print, bytes: &[u8]) -> io::Result<()>
     requires { length bytes.now ≤ 256 }
 {
     let mut zeros = 0;
     let mut i = 0;
     while i < bytes.len() {
-        zeros = field_byte(bytes[i], zeros);
+        zeros = field_byte(rt, bytes[i], zeros)?;
         i += 1;
     }
-    number(b" and zeros ", zeros);
+    number(rt, b" and zeros ", zeros)
 }

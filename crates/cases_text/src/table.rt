@@ -7,27 +7,23 @@ pub fn end(table: &[u8], start: usize) -> usize
     ensures lower_bound { start < result }
     ensures upper_bound { result ≤ length table.now }
 {
-    let mut i = start;
-    while i < table.len() {
+    for i in start..table.len() {
         if table[i] == b'\n' {
             return i + 1;
         }
-        i += 1;
     }
-    i
+    table.len()
 }
 
 fn colon(row: &[u8]) -> usize
     ensures { result ≤ length row.now }
 {
-    let mut i = 0;
-    while i < row.len() {
+    for i in 0..row.len() {
         if row[i] == b':' {
             return i;
         }
-        i += 1;
     }
-    i
+    row.len()
 }
 
 pub fn label(row: &[u8]) -> &[u8] {
@@ -56,7 +52,7 @@ fn with_digit(number: u64, byte: u8) -> u64 {
     if 1844674407370955161 < number {
         return number;
     }
-    std::num::wrapping_add_u64(10 * number, (byte - b'0') as u64)
+    (10 * number).wrapping_add((byte - b'0') as u64)
 }
 
 // Puts the next byte of a row to the numbers, of which there are `count` so far. Answers how many there are then.
@@ -79,10 +75,8 @@ fn put_byte(numbers: &mut [u64], count: usize, byte: u8) -> usize {
 // What the case is given, as numbers: decimal digits, and a blank before each. They take the place of zeros. Answers how many there are.
 pub fn put_numbers(row: &[u8], numbers: &mut [u64]) -> usize {
     let mut count = 0;
-    let mut i = colon(row);
-    while i < row.len() {
+    for i in colon(row)..row.len() {
         count = put_byte(numbers, count, row[i]);
-        i += 1;
     }
     count
 }

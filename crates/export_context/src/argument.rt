@@ -1,5 +1,7 @@
 // The load address, as the argument gives it.
 
+use std::env::{Env, FillError};
+
 #[derive(Clone, Copy)]
 pub enum Load {
     Address(u64),
@@ -33,23 +35,23 @@ fn number(digits: &[u8]) -> Load {
         return Load::None;
     }
     let mut n = 0;
-    let mut i = 0;
-    while i < digits.len() {
-        match with_digit(n, digits[i]) {
+    for digit in digits {
+        match with_digit(n, *digit) {
             Load::Address(more) => n = more,
             Load::None => return Load::None,
         }
-        i += 1;
     }
     Load::Address(n)
 }
 
-// A longer argument than a number of 64 bits can have is read as none: `os::arg` then answers 0.
-pub fn load_address() -> Load {
-    if os::arg_count() != 2 {
-        return Load::None;
-    }
+// There is one argument. A longer one than a number of 64 bits can have is read as none.
+pub fn load_address(rt: &impl Env) -> Load {
     let mut space = [0u8; 20];
-    let length = os::arg(1, &mut space);
-    number(&space[..length])
+    let Ok(length) = rt.arg(1, &mut space) else {
+        return Load::None;
+    };
+    if let Err(FillError::NotPresent) = rt.arg(2, &mut [0u8; 0]) {
+        return number(&space[..length]);
+    }
+    Load::None
 }

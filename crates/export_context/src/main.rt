@@ -5,44 +5,37 @@
 mod argument;
 
 use argument::Load;
-use libc::{STDERR_FILENO, STDIN_FILENO, STDOUT_FILENO};
 use refusals::{Answer, Refusal};
+use std::io;
 
 // The line that a listing has for a refused context.
-fn refused(refusal: Refusal) {
-    io::write_all(STDERR_FILENO, b"refused=");
-    io::print_decimal(STDERR_FILENO, refusal.number as u64);
-    io::write_all(STDERR_FILENO, b",");
-    io::print_decimal(STDERR_FILENO, refusal.offset as u64);
-    io::write_all(STDERR_FILENO, b"\n");
+fn refused(rt: &impl Eprint, refusal: Refusal) -> io::Result<()> {
+    eprintln!(rt; "refused={},{}", refusal.number, refusal.offset)
 }
 
 // Writes the payload, which is made in `out`: one that is made is not longer.
-fn export(input: &[u8], load: u64, out: &mut [u8]) {
+fn export(rt: &(impl Print + Eprint), input: &[u8], load: u64, out: &mut [u8]) -> io::Result<()> {
     match handover_export::export(input, load, out) {
-        Answer::Refused(refusal) => refused(refusal),
-        Answer::Done(size) => {
-            io::write_all(STDOUT_FILENO, &out[..size as usize]);
-        }
+        Answer::Refused(refusal) => refused(rt, refusal),
+        Answer::Done(size) => rt.write_all(&out[..size as usize]),
     }
 }
 
 // A context and a payload each have at most 65,536 bytes.
-fn run(load: u64) {
-    let mut input = io::large_buffer();
-    let read = io::read_full(STDIN_FILENO, &mut input);
-    let mut out = io::large_buffer();
-    export(&input[..read], load, &mut out);
+fn run<R: io::Read>(rt: &(impl Print + Eprint), input: &mut R, load: u64) -> io::Result<()> {
+    let mut space = [0u8; 65536];
+    let read = full_reads::read_full(input, &mut space)?;
+    let mut out = [0u8; 65536];
+    export(rt, &space[..read], load, &mut out)
 }
 
-fn main() {
-    match argument::load_address() {
-        Load::Address(load) => run(load),
+fn main(rt: HostRuntime) -> io::Result<()> {
+    match argument::load_address(&rt) {
+        Load::Address(load) => run(&rt, &mut rt.stdin(), load),
         Load::None => {
-            io::write_all(
-                STDERR_FILENO,
-                b"usage: export_context LOAD_ADDRESS <context >payload, the address in decimal digits\n",
-            );
+            eprintln!(rt;
+                "usage: export_context LOAD_ADDRESS <context >payload, the address in decimal digits"
+            )
         }
     }
 }
