@@ -14,7 +14,7 @@ use Rattle.handover_format.specs.Tags.{handover_free, handover_stack, handover_k
 use Rattle.handover_format.specs.PayloadDecoding.{pick}
 use Rattle.handover_format.specs.WrittenForm.{closed_if, strings_of, strings, words_at, placed}
 use Rattle.handover_format.proofs.WrittenLaws.{length_closed, strings_one}
-use Rattle.export_list.specs.ExportList.{bare, tag_of, range_entry, range_entries, file_entry, line_entry}
+use Rattle.export_list.specs.ExportList.{bare, tag_of, range_entries, file_entry, line_entry}
 
 -- a tag that names no string
 abbrev pub Nameless : ℕ → Type 0

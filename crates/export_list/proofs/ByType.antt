@@ -1,17 +1,16 @@
 -- What the attribute at a place becomes, by the type that is asked for.
 use Prim.Native.Nat.{ℕ, ◌+◌, ◌-◌, ◌/◌, ◌≤◌}
-use mathlib.Core.Path.{◌≡◌, refl, sym, ap, ◌∙◌}
+use mathlib.Core.Path.{◌≡◌, refl, ap, ◌∙◌}
 use mathlib.Core.List.{List, [], ◌∷◌}
 use native.Mathlib.Omega.{arith}
 use lib.ListN.{length}
-use lib.Dec.{eqb}
 use borrow.Author.Tests.{eq-eqb, ne_eqb}
 use Rattle.words.specs.Words.{u32_at, u64_at}
 use Rattle.byte_layout.specs.Stored.{text_at}
 use Rattle.ultra_format.specs.Contexts.{Body}
 use Rattle.ultra_format.specs.Decoding.{entries_at, module_at, decoded}
 use Rattle.ultra_format.proofs.Bodies.{by_type}
-use Rattle.ultra_format.proofs.Sizes.{platform_least, module_least, line_least}
+use Rattle.ultra_format.proofs.Sizes.{platform_least, module_least}
 use Rattle.handover_format.specs.Tags.{handover_rsdp}
 use Rattle.handover_format.specs.WrittenForm.{strings}
 use Rattle.handover_format.proofs.WrittenLaws.{strings_none}

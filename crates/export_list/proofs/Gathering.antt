@@ -5,15 +5,13 @@ use mathlib.Core.List.{List, [], ◌++◌}
 use native.Mathlib.Omega.{arith}
 use native.Mathlib.Nat.{sub-zero}
 use native.Mathlib.Numerals.{add-one}
-use lib.ListN.{length}
-use lib.Dec.{eqb}
 use Rattle.words.specs.Words.{u32_at}
-use Rattle.ultra_format.specs.Decoding.{start, stored_type, stored_size, stored_count, stored_attribute, attributes_from, context_of}
+use Rattle.ultra_format.specs.Decoding.{start, stored_type, stored_size, stored_count, attributes_from, context_of}
 use Rattle.ultra_format.proofs.Bodies.{decoded_type}
 use Rattle.ultra_locating.specs.Passing.{Accepts}
-use Rattle.ultra_locating.proofs.Located.{Inside, loaded, inside}
+use Rattle.ultra_locating.proofs.Located.{loaded, inside}
 use Rattle.handover_format.specs.Payloads.{Entry}
-use Rattle.export_list.specs.ExportList.{records_if, gathered}
+use Rattle.export_list.specs.ExportList.{gathered}
 use Rattle.export_list.specs.AttributeEntries.{AttributeAt, becomes}
 
 -- what the attributes of type k from attribute i of n on become

@@ -1,6 +1,6 @@
 -- Laws of the whole list: the first and the last record have no string, nor have the ranges and the pointer.
 use Prim.Native.Nat.{ℕ, ◌+◌}
-use mathlib.Core.Path.{◌≡◌, refl, sym, ap, ap₂, ◌∙◌}
+use mathlib.Core.Path.{◌≡◌, refl, ap, ap₂, ◌∙◌}
 use mathlib.Core.Bool.{Bool, true, false}
 use mathlib.Core.List.{List, [], ◌∷◌, ◌++◌, append-nil}
 use native.Mathlib.Omega.{arith}
@@ -8,7 +8,7 @@ use lib.ListN.{length, length-append}
 use lib.Dec.{eqb}
 use Rattle.ultra_format.specs.Contexts.{Body, type_of, Attribute}
 use Rattle.ultra_format.specs.Contexts.{Body.platform, Body.kernel, Body.memory_map, Body.module_info, Body.command_line, Body.framebuffer, Body.other}
-use Rattle.handover_format.specs.Payloads.{handover_end, Entry}
+use Rattle.handover_format.specs.Payloads.{handover_end}
 use Rattle.handover_format.specs.Tags.{handover_self, handover_rsdp}
 use Rattle.handover_format.specs.PayloadDecoding.{pick}
 use Rattle.handover_format.specs.WrittenForm.{strings, payload_size}

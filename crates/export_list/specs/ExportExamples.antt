@@ -3,7 +3,7 @@
 -- buffer gives them: crate handover_exported, Witness.
 -- A reader has to believe this file.
 use Rattle.std.specs.Prelude.{ℕ, ◌≡◌, List, [], ◌∷◌, ◌++◌}
-use Rattle.ultra_format.specs.Contexts.{Platform, Entry, Module, Context}
+use Rattle.ultra_format.specs.Contexts.{Platform, Entry, Context}
 use Rattle.ultra_format.specs.Contexts.{Member.absent, Body.platform, Body.kernel, Body.memory_map, Body.module_info, Body.command_line, Body.other}
 use Rattle.ultra_format.specs.Examples.{listed_kernel, listed}
 use Rattle.handover_format.specs.WrittenForm.{payload_bytes}

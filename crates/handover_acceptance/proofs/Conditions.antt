@@ -1,25 +1,24 @@
 -- Each test of reading fails just under its condition.
-use Prim.Native.Nat.{ℕ, zero, suc, ◌+◌, ◌-◌, ◌≤◌, ◌<◌}
-use mathlib.Core.Path.{◌≡◌, refl, sym, ap, ◌∙◌, subst}
-use mathlib.Core.Logic.{◌↔◌, ◌⊎◌, inl, inr, ⊎_elim}
+use Prim.Native.Nat.{ℕ, ◌+◌, ◌-◌, ◌<◌}
+use mathlib.Core.Path.{◌≡◌, refl, sym, ap, ◌∙◌}
+use mathlib.Core.Logic.{◌↔◌, ◌⊎◌, inl, inr}
 use mathlib.Core.Bool.{Bool, true, false, not, ◌&&◌}
 use mathlib.Core.List.{List, [], ◌∷◌}
 use native.Mathlib.Omega.{arith}
-use native.Mathlib.Nat.{not-suc-le-zero}
-use lib.ListN.{length, get_or}
-use lib.Dec.{leb, ltb, eqb}
-use borrow.Author.Tests.{leb-false, lt-leb, ltb-true, ltb-false, lt-ltb, le-ltb, eqb-true, eqb-false, eq-eqb, ne_eqb, not-true, not-false}
+use lib.ListN.{length}
+use lib.Dec.{leb, eqb}
+use borrow.Author.Tests.{leb-false, lt-leb, ltb-true, lt-ltb, eqb-true, eqb-false, eq-eqb, ne_eqb, not-false}
 use Rattle.words.specs.Words.{u32_at}
 use Rattle.byte_layout.proofs.Texts.{text_zero, zero_text}
 use Rattle.refusals.specs.Refusals.{unless, SHORT, COUNT, RANGE, MAGIC, PAYLOAD, STRING, END}
-use Rattle.handover_format.specs.Payloads.{handover_end, names_name, names_meta}
+use Rattle.handover_format.specs.Payloads.{handover_end}
 use Rattle.lent_buffers.specs.Room.{room_of}
 use Rattle.handover_format.specs.PayloadLayouts.{magic}
 use Rattle.handover_format.specs.PayloadDecoding.{stored_size, stored_count, stored_table, stored_record, string_at}
 use Rattle.address_ranges.specs.Ranges.{range_fits}
 use Rattle.handover_format.specs.RecordTests.{end_suits, if_named}
 use Rattle.handover_reading.specs.PayloadReading.{head_check, words_check, record_check, closes, strings_check, named_check}
-use Rattle.handover_reading.proofs.RecordLaws.{name_suits, meta_suits, strings_hold}
+use Rattle.handover_reading.proofs.RecordLaws.{name_suits, meta_suits}
 use Rattle.handover_reading.proofs.Accepted.{stored_length}
 use Rattle.handover_acceptance.specs.PayloadRefusals.{HeadBreaks, HeadBreaks.short, HeadBreaks.foreign, HeadBreaks.count, HeadBreaks.extent, RecordBreaks, RecordBreaks.misplaced, RecordBreaks.missing, RecordBreaks.range, Closes, StringBreaks, StringBreaks.name, StringBreaks.meta, head_order, record_order}
 use Rattle.refusals.specs.Order.{NoneBreaks}

@@ -2,7 +2,7 @@
 use Prim.Native.Nat.{ℕ, ◌+◌, ◌-◌, ◌≤◌, ◌<◌}
 use mathlib.Core.Path.{◌≡◌, refl, sym, ap, ap₂, ◌∙◌, subst}
 use mathlib.Core.Logic.{◌↔◌, ◌⊎◌, inl, inr}
-use mathlib.Core.Bool.{Bool, true, false}
+use mathlib.Core.Bool.{true, false}
 use mathlib.Core.List.{List, []}
 use native.Mathlib.Omega.{arith}
 use lib.Dec.{eqb}
@@ -10,17 +10,15 @@ use borrow.Author.Tests.{leb-true, le-leb}
 use Rattle.byte_layout.specs.Stored.{Bytes}
 use Rattle.handover_format.specs.Payloads.{handover_end, names_name, names_meta, Entry, Payload, count, entry_in, words_in, record_start, table, table_length, Named, Named.agent, Named.name, Named.meta}
 use Rattle.lent_buffers.specs.Room.{room_of}
-use Rattle.handover_format.specs.PayloadLayouts.{Opens}
 use Rattle.handover_format.specs.PayloadRules.{StringMeets, Meets}
-use Rattle.handover_format.specs.PayloadDecoding.{string_at, stored_agent, stored_size, stored_count, stored_table, stored_string, stored_record, stored_entry, payload_of}
+use Rattle.handover_format.specs.PayloadDecoding.{stored_agent, stored_count, stored_table, stored_record, stored_entry, payload_of}
 use Rattle.handover_format.specs.declared.records.Record.{Record}
 use Rattle.refusals.specs.Answers.{number_of, value_of}
 use Rattle.refusals.specs.declared.Refusal.{Refusal}
 use Rattle.refusals.specs.declared.Answer.{Answer}
 use Rattle.refusals.specs.declared.Answer.TheVariants.{Done, Refused}
 use Rattle.handover_format.proofs.PayloadRows.{Says, opens_says, says_fits, says_opens}
-use Rattle.handover_format.proofs.PayloadDecoded.{count_decoded, entry_decoded, table_decoded, size_decoded, length_decoded, says_decoded}
-use Rattle.handover_format.specs.RecordTests.{if_named}
+use Rattle.handover_format.proofs.PayloadDecoded.{count_decoded, entry_decoded, table_decoded, length_decoded, says_decoded}
 use Rattle.handover_reading.specs.PayloadReading.{closes, words_check, record_check, strings_check, named_check, reading_of}
 use Rattle.handover_reading.proofs.RecordLaws.{words_hold, words_pass, strings_hold, strings_pass}
 use Rattle.handover_reading.proofs.Accepted.{stored_length, Accepted, accepted, accepting}

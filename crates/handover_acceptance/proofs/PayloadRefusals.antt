@@ -1,23 +1,22 @@
 -- Reading gives each number exactly under its condition, with its offset.
-use Prim.Native.Nat.{ℕ, zero, suc, ◌+◌, ◌-◌, ◌<◌}
-use mathlib.Core.Path.{◌≡◌, refl, sym, ap, ap₂, ◌∙◌}
-use mathlib.Core.Logic.{◌↔◌, ◌⊎◌, inl, inr, ⊎_elim}
+use Prim.Native.Nat.{ℕ, ◌<◌}
+use mathlib.Core.Path.{◌≡◌, refl, sym, ap, ◌∙◌}
+use mathlib.Core.Logic.{⊎_elim}
 use mathlib.Core.Bool.{Bool, true, false}
 use mathlib.Core.List.{List}
 use native.Mathlib.Omega.{arith}
 use native.Mathlib.Nat.{zero-add}
 use Rattle.refusals.specs.Refusals.{STRING}
 use Rattle.refusals.specs.Order.{First, NoneBreaks}
-use Rattle.refusals.specs.Answers.{refusal, refused, number_of, value_of}
+use Rattle.refusals.specs.Answers.{refused, number_of, value_of}
 use Rattle.handover_format.specs.Payloads.{record_start}
 use Rattle.handover_format.specs.PayloadDecoding.{stored_agent, stored_size, stored_count, stored_table}
-use Rattle.refusals.specs.declared.Answer.{Answer}
 use Rattle.refusals.specs.declared.Answer.TheVariants.{Done}
 use Rattle.handover_reading.specs.PayloadReading.{head_check, record_check, closes, named_check, each_of, reading_of}
 use Rattle.handover_reading.proofs.EachLaws.{each_done}
 use Rattle.handover_reading.proofs.AnswerLaws.{body_refused, body_agent, body_strings, head_refuses, head_goes_on}
 use Rattle.handover_reading.proofs.Accepted.{stored_length}
-use Rattle.handover_acceptance.specs.PayloadRefusals.{HeadBreaks, RecordBreaks, Closes, StringBreaks, head_order, record_order, ClearTo, Refuses, Refuses.head, Refuses.row, Refuses.agent, Refuses.string, RefusesExactly}
+use Rattle.handover_acceptance.specs.PayloadRefusals.{HeadBreaks, RecordBreaks, StringBreaks, head_order, record_order, ClearTo, Refuses, Refuses.head, Refuses.row, Refuses.agent, Refuses.string, RefusesExactly}
 use Rattle.refusals.proofs.Order.{AllFine, Chain, said_first, said_none}
 use Rattle.handover_acceptance.proofs.FirstBreak.{FirstBreak, each_at, each_settled}
 use Rattle.handover_acceptance.proofs.Conditions.{head_chain, head_none, record_chain, record_none, closes_said, closes_by, fails_closes, closes_fails, strings_settled}

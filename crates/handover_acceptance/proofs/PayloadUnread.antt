@@ -1,8 +1,8 @@
 -- Two buffers that are alike where reading looks are read alike.
-use Prim.Native.Nat.{ℕ, zero, suc, ◌+◌, ◌-◌, ◌*◌, ◌≤◌, ◌<◌, min}
+use Prim.Native.Nat.{ℕ, zero, suc, ◌+◌, ◌-◌, ◌≤◌, ◌<◌, min}
 use mathlib.Core.Path.{◌≡◌, refl, sym, ap, ap₂, ◌∙◌, subst}
 use mathlib.Core.Bool.{Bool, true, false}
-use mathlib.Core.List.{List, [], ◌∷◌, ◌++◌, append-nil}
+use mathlib.Core.List.{List, ◌++◌, append-nil}
 use native.Mathlib.Omega.{arith}
 use native.Mathlib.Nat.{zero-add}
 use lib.ListN.{length, get_or, set, length-set, length-append, get_or-append}
@@ -18,12 +18,11 @@ use Rattle.lent_buffers.specs.Room.{room_of}
 use Rattle.refusals.specs.Refusals.{unless, SHORT, COUNT, MAGIC, PAYLOAD, STRING}
 use Rattle.refusals.specs.Answers.{or_refused, or_refused_at, and_then}
 use Rattle.refusals.specs.declared.Answer.{Answer}
-use Rattle.handover_format.specs.declared.records.Record.{Record}
-use Rattle.handover_format.specs.Payloads.{Payload, names_name, names_meta, count, words_in, record_start, table, table_length, Named, Named.agent, Named.name, Named.meta, entry_in, Entry}
+use Rattle.handover_format.specs.Payloads.{Payload, names_name, names_meta, count, record_start, table, table_length, Named, Named.agent, Named.name, Named.meta, Entry}
 use Rattle.handover_format.specs.PayloadLayouts.{magic, front_fields, string_fields, RowOf.front, RowOf.string, Silent}
 use Rattle.handover_format.specs.PayloadDecoding.{stored_agent, stored_size, stored_count, stored_table, stored_record, stored_entry, string_at, payload_of}
 use Rattle.handover_format.specs.RecordTests.{if_named}
-use Rattle.handover_format.proofs.PayloadRows.{Says, width_front}
+use Rattle.handover_format.proofs.PayloadRows.{width_front}
 use Rattle.handover_format.proofs.PayloadDecoded.{count_decoded, entry_decoded, table_decoded, length_decoded, says_decoded}
 use Rattle.handover_format.proofs.Silence.{loud_front}
 use Rattle.handover_reading.specs.PayloadReading.{head_check, words_check, record_check, closes, strings_check, named_check, each_of, body_answer, reading_of}

@@ -1,17 +1,17 @@
 -- Each test of reading says the same as its rule.
-use Prim.Native.Nat.{ℕ, ◌+◌, ◌-◌, ◌≤◌, ◌<◌}
-use mathlib.Core.Path.{◌≡◌, refl, sym, ap, ◌∙◌}
+use Prim.Native.Nat.{ℕ, ◌+◌, ◌-◌}
+use mathlib.Core.Path.{◌≡◌, refl, sym, ap}
 use mathlib.Core.Logic.{◌↔◌}
 use mathlib.Core.Bool.{Bool, true, false, not}
 use mathlib.Core.List.{List, []}
 use native.Mathlib.Omega.{arith}
 use native.Mathlib.Nat.{add-zero}
-use lib.ListN.{length, get_or}
-use lib.Dec.{ltb, eqb}
+use lib.ListN.{length}
+use lib.Dec.{eqb}
 use borrow.Author.Tests.{ltb-true, lt-ltb, eqb-true, eqb-false, eq-eqb, ne_eqb, not-true}
 use Rattle.refusals.proofs.Order.{clash}
 use Rattle.byte_layout.specs.Fields.{Field.text, Fits, FieldFits}
-use Rattle.byte_layout.specs.Stored.{Bytes, text_at}
+use Rattle.byte_layout.specs.Stored.{Bytes}
 use Rattle.byte_layout.proofs.FieldLaws.{holds_fit}
 use Rattle.handover_format.specs.Payloads.{handover_end}
 use Rattle.handover_format.specs.PayloadLayouts.{string_fields}

@@ -5,8 +5,7 @@ use mathlib.Core.Path.{◌≡◌, refl, sym, ap, ap₂, ◌∙◌, subst}
 use mathlib.Core.Bool.{Bool, true, false}
 use mathlib.Core.List.{List, []}
 use native.Mathlib.Omega.{arith}
-use native.Mathlib.Nat.{add-zero}
-use lib.ListN.{length, get_or}
+use lib.ListN.{length}
 use denote.Ref.{Bor}
 use lib.Seq.{ext_get_or}
 use lib.Dec.{ltb, leb}
@@ -14,13 +13,13 @@ use borrow.Author.Tests.{ltb-true, ltb-false, lt-ltb, le-ltb, leb-true, leb-fals
 use Rattle.byte_layout.specs.Fields.{width}
 use Rattle.byte_layout.specs.Placed.{PlacedWithin}
 use Rattle.byte_layout.proofs.PlacedLaws.{placed_over}
-use Rattle.byte_layout.specs.Stored.{Bytes, bytes_at, text_at}
+use Rattle.byte_layout.specs.Stored.{Bytes, bytes_at}
 use Rattle.byte_layout.proofs.Copies.{text_bytes}
 use Rattle.refusals.specs.Refusals.{COUNT, STRING, unless}
 use Rattle.refusals.specs.Answers.{refused, number_of, value_of, or_refused, and_then}
-use Rattle.handover_format.specs.Payloads.{names_name, names_meta, Entry, Payload, count, no_entry, entry_in, words_in, table, table_length, Named, Named.agent, Named.name, Named.meta}
+use Rattle.handover_format.specs.Payloads.{names_name, names_meta, Entry, Payload, count, no_entry, entry_in, words_in, table, table_length, Named.agent, Named.name, Named.meta}
 use Rattle.lent_buffers.specs.Room.{room_of}
-use Rattle.handover_format.specs.PayloadLayouts.{string_fields, RowOf, RowOf.front, RowOf.string, Opens}
+use Rattle.handover_format.specs.PayloadLayouts.{string_fields, RowOf, RowOf.front, RowOf.string}
 use Rattle.handover_format.specs.PayloadRules.{StringMeets, Meets}
 use Rattle.handover_format.specs.PayloadDecoding.{pick, string_at, stored_agent, stored_size, stored_count, stored_table, payload_of}
 use Rattle.refusals.specs.declared.Refusal.{Refusal}

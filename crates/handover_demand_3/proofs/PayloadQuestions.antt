@@ -1,7 +1,7 @@
 -- The questions are refused exactly where reading is, and the one for a record from the count on.
-use Prim.Native.Nat.{ℕ, ◌≤◌, ◌<◌}
+use Prim.Native.Nat.{ℕ}
 use mathlib.Core.Path.{◌≡◌, refl, sym, ap, ◌∙◌}
-use mathlib.Core.Logic.{◌↔◌, ◌⊎◌, inl, inr, ⊎_elim}
+use mathlib.Core.Logic.{◌⊎◌, inl, inr, ⊎_elim}
 use mathlib.Core.Bool.{Bool, true, false}
 use mathlib.Core.List.{List}
 use native.Mathlib.Omega.{arith}
@@ -16,8 +16,6 @@ use Rattle.handover_format.specs.PayloadDecoding.{stored_count, payload_of}
 use Rattle.handover_format.proofs.PayloadDecoded.{size_decoded}
 use Rattle.handover_reading.specs.PayloadReading.{reading_of}
 use Rattle.handover_reading.proofs.Accepted.{accepted}
-use Rattle.handover_questions.specs.declared.AgentAnswer.{AgentAnswer}
-use Rattle.handover_questions.specs.declared.RecordAnswer.{RecordAnswer}
 use Rattle.handover_questions.specs.Questions.{agent_refused, record_refused, with_agent, with_record, agent_answer, index_answer, record_answer}
 use Rattle.handover_questions.proofs.QuestionLaws.{index_passed, index_past, index_found, found}
 use Rattle.handover_acceptance.specs.PayloadRefusals.{Refuses}

@@ -3,19 +3,19 @@ use Prim.Native.Nat.{ℕ, zero, suc, ◌+◌, ◌-◌, ◌≤◌, ◌<◌}
 use mathlib.Core.Path.{◌≡◌, refl, sym, ap, ◌∙◌, subst}
 use mathlib.Core.Logic.{◌↔◌, ◌⊎◌, inl, inr, ⊎_elim}
 use mathlib.Core.Bool.{Bool, true, false, ◌&&◌}
-use mathlib.Core.List.{List, [], ◌∷◌, ◌++◌}
+use mathlib.Core.List.{List, [], ◌∷◌}
 use native.Mathlib.Omega.{arith}
 use lib.ListN.{length, get_or, get_or-append}
 use lib.Seq.{get_or-append-add}
-use lib.Dec.{ltb, leb}
+use lib.Dec.{ltb}
 use borrow.Author.Tests.{ltb-true, ltb-false}
 use Rattle.words.specs.Words.{number_at}
 use Rattle.byte_layout.specs.Stored.{Bytes, bytes_at, text_at}
 use Rattle.lent_buffers.specs.Room.{room_of}
-use Rattle.lent_buffers.specs.LentParts.{part, no_part, PartOf}
+use Rattle.lent_buffers.specs.LentParts.{PartOf}
 use Rattle.refusals.specs.declared.Answer.TheVariants.{Done}
 use Rattle.refusals.proofs.Chains.{both_hold}
-use Rattle.handover_format.specs.Payloads.{names_name, names_meta, Payload, count, entry_in, words_in, table, Named, Named.agent, Named.name, Named.meta}
+use Rattle.handover_format.specs.Payloads.{names_name, names_meta, entry_in, words_in, Named, Named.agent, Named.name, Named.meta}
 use Rattle.handover_format.specs.PayloadLayouts.{Silent}
 use Rattle.handover_format.specs.PayloadDecoding.{entries_from, payload_of}
 use Rattle.handover_format.specs.Silence.{Outside}

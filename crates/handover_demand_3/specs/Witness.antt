@@ -7,7 +7,7 @@ use Rattle.std.specs.Prelude.{ℕ, ◌+◌, ◌≤◌, ◌<◌, ◌≡◌, ◌�
 use Rattle.std.specs.Borrow.{Bor}
 use Rattle.byte_layout.specs.Stored.{Bytes}
 use Rattle.lent_buffers.specs.declared.Part.{Part}
-use Rattle.lent_buffers.specs.LentParts.{part, no_part, PartOf}
+use Rattle.lent_buffers.specs.LentParts.{part}
 use Rattle.refusals.specs.Answers.{refused}
 use Rattle.refusals.specs.declared.Answer.{Answer}
 use Rattle.refusals.specs.declared.Answer.TheVariants.{Done}

@@ -47,9 +47,9 @@ ranges_sound : (es : List ultra.Entry) → Fits (entries_fields es) → every en
 unfolding Fits entries_fields every range_entries
 ranges_sound [] f h = each_none Inner
 ranges_sound (e ∷ es) f h =
-    let p = both_hold _ _ h in
     let t : tag_of e.entry_type < 256 ^ 4 = tag_is (λ k. k < 256 ^ 4) (omega arith) (omega arith) (omega arith) (omega arith) (omega arith) e.entry_type in
     let n : tag_of e.entry_type ≡ handover_end → ⊥ = tag_is (λ k. k ≡ handover_end → ⊥) (λ q. omega arith) (λ q. omega arith) (λ q. omega arith) (λ q. omega arith) (λ q. omega arith) e.entry_type in
+    let p = both_hold _ _ h in
     each_more Inner _ _ (bare_sound (tag_of e.entry_type) e.address e.size t f.0 f.1.0 (leb-true _ _ p.0), n) (ranges_sound es f.1.1.1 p.1)
 
 file_sound : (m : ultra.Module) → Text m.name → m.address < 256 ^ 8 → m.size < 256 ^ 8 → m.address + m.size ≤ 18446744073709551616 → Inner (file_entry m)

@@ -5,8 +5,8 @@ use mathlib.Core.Bool.{Bool, true, false}
 use mathlib.Core.List.{List, []}
 use native.Mathlib.Omega.{arith}
 use lib.ListN.{length}
-use Rattle.handover_format.specs.Payloads.{names_name, names_meta, Entry, entry_in, table}
-use Rattle.handover_format.specs.PayloadDecoding.{pick, stored_agent, stored_size, stored_table, stored_record, stored_string, stored_entry, payload_of}
+use Rattle.handover_format.specs.Payloads.{names_name, names_meta, Entry}
+use Rattle.handover_format.specs.PayloadDecoding.{pick, stored_agent, stored_size, stored_table, stored_record, stored_string, payload_of}
 use Rattle.refusals.specs.declared.Answer.{Answer}
 use Rattle.refusals.specs.declared.Answer.TheVariants.{Done, Refused}
 use Rattle.handover_format.proofs.PayloadDecoded.{table_decoded, entry_decoded}

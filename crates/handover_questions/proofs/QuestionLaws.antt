@@ -7,10 +7,9 @@ use native.Mathlib.Omega.{arith}
 use lib.ListN.{length}
 use lib.Dec.{ltb}
 use borrow.Author.Tests.{ltb-true, lt-ltb, le-ltb}
-use Rattle.byte_layout.proofs.Copies.{text_short}
 use Rattle.refusals.specs.Refusals.{COUNT}
 use Rattle.refusals.specs.Answers.{refused, and_then}
-use Rattle.handover_format.specs.Payloads.{names_name, names_meta, Entry, Payload, count, entry_in, record_start, table}
+use Rattle.handover_format.specs.Payloads.{names_name, names_meta, count, record_start}
 use Rattle.handover_format.specs.PayloadDecoding.{pick, string_at, stored_agent, stored_size, stored_count, stored_table, stored_string, stored_record, stored_entry, payload_of}
 use Rattle.handover_format.specs.declared.records.Record.{Record}
 use Rattle.refusals.specs.declared.Refusal.{Refusal}

@@ -1,5 +1,4 @@
-// Modules in an array by value, lent as a list: a slice of structs has to be made by a function that is proved by hand, so the programs share
-// this one.
+// Modules in an array by value, lent as a list: the programs share this one.
 #![tactic(auto)]
 
 ghost use Rattle.std.specs.Prelude.{◌≡◌, ◌≤◌, take};

@@ -19,7 +19,7 @@ use Rattle.refusals.specs.declared.Refusal.{Refusal}
 use Rattle.refusals.specs.declared.Answer.{Answer}
 use Rattle.refusals.specs.declared.Answer.TheVariants.{Done, Refused}
 use Rattle.ultra_format.proofs.Bodies.{by_type}
-use Rattle.ultra_format.proofs.Attributes.{at, Sized, sized, width_attribute, width_layout, says_fits, says_opens}
+use Rattle.ultra_format.proofs.Attributes.{Sized, sized, width_attribute, width_layout, says_fits, says_opens}
 use Rattle.ultra_format.proofs.Decoded.{count_decoded, at_decoded, type_decoded, used_decoded, says_decoded, decoded_only}
 use Rattle.ultra_stepping.specs.Checks.{head_check}
 use Rattle.ultra_reading.specs.Reading.{check_of, attributes_answer, used_length, version_of, with_version, reading_of, reading_number}

@@ -1,7 +1,7 @@
 -- Where the bytes of an attribute lie in the layout of the context that is decoded from a buffer: from its start in the buffer on, if the
 -- attributes before it break no rule. And that the head but for its reserved u16, and each attribute's type and size, are not silent.
 use Prim.Native.Nat.{ℕ, zero, suc, ◌+◌, ◌<◌}
-use mathlib.Core.Path.{◌≡◌, refl, sym, ap, ◌∙◌}
+use mathlib.Core.Path.{◌≡◌, refl, sym, subst, ap, ◌∙◌}
 use mathlib.Core.List.{List, [], ◌∷◌, ◌++◌}
 use native.Mathlib.Omega.{arith}
 use native.Mathlib.Nat.{not-suc-le-zero, le_of_suc-le-suc, zero-add}
@@ -70,5 +70,5 @@ module _ (b : List ℕ) (j : ℕ) (h : j < stored_count b) (c : Clear b (room_of
       let l = (context_of b).attributes in
       let e = at_decoded b j h in
       past 4 (layout (context_of b)) (start b j + k) (total (take j l) + k) (omega (arith, start_decoded b j (omega arith)))
-      ∙ in_row l j k wide (omega (arith, count_decoded b)) (rw e g)
+      ∙ in_row l j k wide (omega (arith, count_decoded b)) (subst (λ (a : Attribute). k < width (attribute_fields a)) (sym e) g)
       ∙ ap (λ (a : Attribute). get_or (cells (attribute_fields a)) k silent) e

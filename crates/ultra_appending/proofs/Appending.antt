@@ -1,6 +1,6 @@
 -- Laws of one more attribute at the end: each answer from the facts that lead to it, and what it says that reading accepted the buffer,
 -- that an offset was answered, and that the count was raised.
-use Prim.Native.Nat.{ℕ, ◌+◌, ◌-◌, ◌≤◌, ◌<◌}
+use Prim.Native.Nat.{ℕ, ◌+◌, ◌≤◌, ◌<◌}
 use mathlib.Core.Path.{◌≡◌, refl, sym, ap, ◌∙◌}
 use mathlib.Core.List.{List}
 use native.Mathlib.Omega.{arith}

@@ -1,11 +1,8 @@
 -- `byte_moves::move_down` meets its contract: after i turns the first i bytes are moved.
 use Prim.Native.Nat.{◌-◌, ◌≤◌}
-use mathlib.Core.Path.{◌≡◌, refl}
-use native.Mathlib.Omega.{arith}
-use borrow.Author.Rules.{rules}
-use lib.ListN.{length, length-set}
+use mathlib.Core.Path.{◌≡◌}
+use lib.ListN.{length}
 use Rattle.byte_moves.specs.Moves.{moved}
-use Rattle.byte_moves.proofs.MoveLaws.{none_moved, down_more}
 use Rattle.byte_moves.proofs.move_down.Given as goal
 
 abbrev pub invariant-loop-i : goal.invariant-loop-i

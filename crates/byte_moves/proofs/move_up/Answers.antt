@@ -1,10 +1,8 @@
 -- `byte_moves::move_up` meets its contract: the bytes from i on are moved.
-use Prim.Native.Nat.{◌+◌, ◌-◌, ◌≤◌}
-use mathlib.Core.Path.{◌≡◌, refl}
+use mathlib.Core.Path.{refl}
 use native.Mathlib.Omega.{arith}
 use borrow.Author.Rules.{rules}
-use lib.ListN.{length, length-set}
-use Rattle.byte_moves.specs.Moves.{moved}
+use lib.ListN.{length-set}
 use Rattle.byte_moves.proofs.MoveLaws.{last_moved, all_moved, up_again}
 use Rattle.byte_moves.proofs.move_up.Goals as goal
 

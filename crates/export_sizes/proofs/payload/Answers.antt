@@ -1,8 +1,7 @@
 -- `payload` meets its contract.
-use Prim.Native.Nat.{◌+◌, ◌≤◌}
-use mathlib.Core.Path.{◌≡◌, ap, ◌∙◌}
+use Prim.Native.Nat.{◌≤◌}
+use mathlib.Core.Path.{ap, ◌∙◌}
 use native.Mathlib.Omega.{arith}
-use borrow.Author.Rules.{rules}
 use Rattle.ultra_format.specs.Decoding.{context_of}
 use Rattle.export_list.specs.ExportList.{entries_of}
 use Rattle.export_sizes.specs.Extents.{grown}
@@ -19,7 +18,7 @@ small c = let e = c.agent-m.ensures in (omega (arith, ap (λ (m : Extent). m.cou
 most : (c : After-of_type-m-3) → (c.of_type-m-3.result.count ≤ 201326592) × (c.of_type-m-3.result.width ≤ 201326625)
 most c =
     let small' : (c.agent-m.result.count ≤ 0) × (c.agent-m.result.width ≤ 33) =
-        let e = c.agent-m.ensures in (omega (arith, ap (λ (m : Extent). m.count) e.0), e.1) in
+    let e = c.agent-m.ensures in (omega (arith, ap (λ (m : Extent). m.count) e.0), e.1) in
     let h = small' in
     let p = c.of_type-m.ensures in
     let q = c.of_type-m-2.ensures in

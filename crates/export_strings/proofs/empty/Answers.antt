@@ -3,7 +3,6 @@ use Prim.Native.Nat.{◌+◌}
 use mathlib.Core.Path.{refl}
 use mathlib.Core.List.{[]}
 use native.Mathlib.Omega.{arith}
-use borrow.Author.Rules.{rules}
 use Rattle.words.proofs.Widths.{byte_stored}
 use Rattle.byte_layout.specs.Stored.{closed}
 use Rattle.export_strings.proofs.PutLaws.{bytes_stored}

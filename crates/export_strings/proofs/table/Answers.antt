@@ -1,10 +1,9 @@
 -- `table` meets its contract: the agent's string, then those of the files, then the command line's.
 use Prim.Native.Nat.{ℕ, ◌+◌, ◌≤◌}
-use mathlib.Core.Path.{◌≡◌, refl, sym, ap, ap₂, ◌∙◌}
+use mathlib.Core.Path.{◌≡◌, refl, sym, ap₂, ◌∙◌}
 use mathlib.Core.List.{List, ◌++◌}
 use native.Mathlib.Omega.{arith}
 use lib.ListN.{length}
-use borrow.Author.Rules.{rules}
 use Rattle.byte_layout.specs.Stored.{text_at, closed}
 use Rattle.ultra_format.specs.Decoding.{context_of}
 use Rattle.ultra_locating.specs.Passing.{Accepts}

@@ -1,10 +1,8 @@
 -- `text` meets its contract.
 use Prim.Native.Nat.{ℕ, ◌+◌}
-use mathlib.Core.Path.{◌≡◌, refl, sym, ap, ◌∙◌}
+use mathlib.Core.Path.{ap, ◌∙◌}
 use mathlib.Core.List.{List}
 use native.Mathlib.Omega.{arith}
-use lib.ListN.{length}
-use borrow.Author.Rules.{rules}
 use Rattle.words.specs.Words.{replaced}
 use Rattle.byte_layout.specs.Stored.{bytes_at, text_at, closed}
 use Rattle.byte_layout.proofs.Copies.{text_bytes}

@@ -1,18 +1,12 @@
 -- `handover_questions::agent` meets its contract.
-use Prim.Native.Nat.{ℕ, ◌+◌, ◌*◌, ◌-◌}
-use mathlib.Core.Path.{◌≡◌, sym, ap, ap₂, ◌∙◌}
-use mathlib.Core.Bool.{Bool, true}
+use mathlib.Core.Path.{◌≡◌, sym, ap, ◌∙◌}
 use native.Mathlib.Omega.{arith}
-use Rattle.handover_format.specs.Payloads.{record_start, names_name, names_meta}
-use Rattle.handover_format.specs.PayloadDecoding.{stored_agent, stored_count, stored_table}
-use Rattle.handover_format.specs.declared.records.Record.{Record}
-use Rattle.refusals.specs.declared.Answer.TheVariants.{Done, Refused}
-use Rattle.handover_format.specs.RecordTests.{if_named}
-use Rattle.handover_reading.specs.PayloadReading.{closes, reading_of}
-use Rattle.handover_reading.proofs.Accepted.{Accepted, accepted}
+use Rattle.handover_format.specs.Payloads.{record_start}
+use Rattle.refusals.specs.declared.Answer.TheVariants.{Done}
+use Rattle.handover_reading.specs.PayloadReading.{reading_of}
+use Rattle.handover_reading.proofs.Accepted.{accepted}
 use Rattle.handover_questions.specs.Questions.{agent_refused}
 use Rattle.handover_questions.proofs.QuestionLaws.{agent_passed, agent_found, closes_at}
-use borrow.Author.Rules.{rules}
 use Rattle.handover_questions.proofs.agent.Goals as goal
 use Rattle.handover_questions.proofs.agent.Goals.{In-Done}
 

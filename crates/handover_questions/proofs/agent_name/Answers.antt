@@ -3,7 +3,6 @@ use mathlib.Core.Path.{sym, subst}
 use Rattle.handover_questions.specs.declared.AgentAnswer.{AgentAnswer}
 use Rattle.lent_buffers.specs.LentParts.{PartOf}
 use Rattle.handover_questions.proofs.PartLaws.{Within, agent_within}
-use borrow.Author.Rules.{rules}
 use Rattle.handover_questions.proofs.agent_name.Goals as goal
 
 pub slice-requires : goal.slice-requires

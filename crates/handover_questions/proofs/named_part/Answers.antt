@@ -1,7 +1,6 @@
 -- `handover_questions::named_part` meets its contract.
 use mathlib.Core.Path.{◌∙◌}
 use Rattle.handover_questions.proofs.QuestionLaws.{named_said, picked, left}
-use borrow.Author.Rules.{rules}
 use Rattle.handover_questions.proofs.named_part.Goals as goal
 
 pub string_part-requires : goal.string_part-requires

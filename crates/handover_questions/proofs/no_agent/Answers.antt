@@ -1,5 +1,4 @@
 -- `handover_questions::no_agent` meets its contract.
-use borrow.Author.Rules.{rules}
 use Rattle.handover_questions.proofs.no_agent.Goals as goal
 
 pub returns : goal.returns

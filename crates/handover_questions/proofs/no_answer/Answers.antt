@@ -1,5 +1,4 @@
 -- `handover_questions::no_answer` meets its contract.
-use borrow.Author.Rules.{rules}
 use Rattle.handover_questions.proofs.no_answer.Goals as goal
 
 pub returns : goal.returns

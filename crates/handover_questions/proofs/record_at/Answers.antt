@@ -1,19 +1,10 @@
 -- `handover_questions::record_at` meets its contract.
-use Prim.Native.Nat.{ℕ, ◌+◌, ◌*◌, ◌-◌}
-use mathlib.Core.Path.{◌≡◌, sym, ap, ap₂, ◌∙◌}
-use mathlib.Core.Bool.{Bool, true}
+use mathlib.Core.Path.{◌≡◌, sym, ap, ◌∙◌}
 use native.Mathlib.Omega.{arith}
 use Rattle.handover_format.specs.Payloads.{record_start, names_name, names_meta}
-use Rattle.handover_format.specs.PayloadDecoding.{stored_agent, stored_count, stored_table}
-use Rattle.handover_format.specs.declared.records.Record.{Record}
-use Rattle.refusals.specs.declared.Answer.TheVariants.{Done, Refused}
-use Rattle.handover_format.specs.RecordTests.{if_named}
-use Rattle.handover_reading.specs.PayloadReading.{closes, reading_of}
-use Rattle.handover_reading.proofs.Accepted.{Accepted, accepted}
-use Rattle.handover_reading.proofs.Accepted.{stored_length}
+use Rattle.refusals.specs.declared.Answer.TheVariants.{Done}
 use Rattle.handover_questions.specs.Questions.{record_refused, index_answer}
 use Rattle.handover_questions.proofs.QuestionLaws.{Found, found, found_strings, slot_at, named_at, record_passed, record_found}
-use borrow.Author.Rules.{rules}
 use Rattle.handover_questions.proofs.record_at.Goals as goal
 use Rattle.handover_questions.proofs.record_at.Goals.{In-Done}
 

@@ -3,7 +3,6 @@ use mathlib.Core.Path.{sym, subst}
 use Rattle.handover_questions.specs.declared.RecordAnswer.{RecordAnswer}
 use Rattle.lent_buffers.specs.LentParts.{PartOf}
 use Rattle.handover_questions.proofs.PartLaws.{Within, record_within}
-use borrow.Author.Rules.{rules}
 use Rattle.handover_questions.proofs.record_name.Goals as goal
 
 pub slice-requires : goal.slice-requires

@@ -4,7 +4,6 @@ use mathlib.Core.Path.{ap}
 use native.Mathlib.Omega.{arith}
 use Rattle.lent_buffers.specs.LentParts.{part}
 use Rattle.handover_questions.proofs.QuestionLaws.{Inside, closes_inside}
-use borrow.Author.Rules.{rules}
 use Rattle.handover_questions.proofs.string_part.Goals as goal
 use Rattle.handover_questions.proofs.string_part.Goals.{Start}
 

@@ -2,13 +2,12 @@
 use mathlib.Core.Path.{refl}
 use mathlib.Core.Bool.{true}
 use native.Mathlib.Omega.{arith}
-use borrow.Author.Rules.{rules}
 use Rattle.ultra_format.specs.Plain.{written_size}
 use Rattle.ultra_format.specs.Contexts.{Body}
 use Rattle.ultra_format.specs.Additions.{body_given, Addition.add_framebuffer}
-use Rattle.ultra_adding.proofs.Adding.{Space, Adds, adds}
+use Rattle.ultra_adding.proofs.Adding.{Adds, adds}
 use Rattle.ultra_adding.proofs.add_framebuffer.Goals as goal
-use Rattle.ultra_adding.proofs.add_framebuffer.Goals.{After-raise_count-answer, In-Done}
+use Rattle.ultra_adding.proofs.add_framebuffer.Goals.{After-raise_count-answer}
 
 abbrev body : After-raise_count-answer → Body
 body c = body_given (add_framebuffer c.args.given)
@@ -17,27 +16,20 @@ add : (c : After-raise_count-answer) → Adds c.args.buf.now c.raise_count-answe
 unfolding body_given written_size
 add c = adds c.raise_count-answer.ensures refl c.check-number.ensures refl
 
-here : (c : In-Done) → Space c.raise_count-answer.new.buf c.in-Done.used 32
-unfolding body_given written_size
-here c =
-    let add' : Adds c.args.buf.now c.raise_count-answer.new.buf true (body c) c.raise_count-answer.result 32 =
-        adds c.raise_count-answer.ensures refl c.check-number.ensures refl in
-    add'.space c.in-Done.is
-
 pub returns-in_default : goal.returns-in_default
 returns-in_default c = (add (goal.at.returns-in_default c).After-raise_count-answer).refused c.in_default.is
 
 pub slice_bounds-write-count : goal.slice_bounds-write-count
-slice_bounds-write-count c = omega (arith, here (goal.at.slice_bounds-write-count c).In-Done)
+slice_bounds-write-count c = omega (arith, (add (goal.at.slice_bounds-write-count c).After-raise_count-answer).space c.in-Done.is)
 
 pub slice_bounds-write-start : goal.slice_bounds-write-start
-slice_bounds-write-start c = omega (arith, here (goal.at.slice_bounds-write-start c).In-Done)
+slice_bounds-write-start c = omega (arith, (add (goal.at.slice_bounds-write-start c).After-raise_count-answer).space c.in-Done.is)
 
 pub write-requires : goal.write-requires
-write-requires c = omega (arith, here (goal.at.write-requires c).In-Done)
+write-requires c = omega (arith, (add (goal.at.write-requires c).After-raise_count-answer).space c.in-Done.is)
 
 pub overflow_add-result : goal.overflow_add-result
-overflow_add-result c = omega (arith, here (goal.at.overflow_add-result c).In-Done)
+overflow_add-result c = omega (arith, (add (goal.at.overflow_add-result c).After-raise_count-answer).space c.in-Done.is)
 
 pub returns : goal.returns
 returns c =

@@ -2,7 +2,6 @@
 use Prim.Native.Nat.{ℕ, ◌-◌, ◌≤◌, ◌<◌}
 use mathlib.Core.Path.{◌≡◌, sym, ap, ◌∙◌}
 use native.Mathlib.Omega.{arith}
-use borrow.Author.Rules.{rules}
 use borrow.Author.Tests.{ltb-true, ltb-false}
 use lib.ListN.{length}
 use Rattle.lent_buffers.specs.Room.{room_of}
@@ -14,7 +13,7 @@ use Rattle.ultra_appending.proofs.check.Goals as goal
 use Rattle.ultra_appending.proofs.check.Goals.{After-next_place_check-place, Else-place-ne0, Start}
 
 read : (s : Start) → Read s.args.buf.now s.args.used
-read s = was_read _ _ s.requires.0
+read s = was_read _ _ s.requires.buf_value
 
 -- there are as many types before as are counted
 abbrev many : (s : Start) → length (types_before s.args.buf.now (stored_count s.args.buf.now)) ≡ stored_count s.args.buf.now
@@ -29,7 +28,10 @@ number c =
 
 few : (c : After-next_place_check-place)
     → let b = c.args.buf.now in length (types_before b (stored_count b)) < 1024
-few c = omega (arith, many c.before.before.before.before.before, c.load_u32-count.ensures, c.if-count-ge1024.false)
+few c =
+    let b = c.args.buf.now in
+    let many' : length (types_before b (stored_count b)) ≡ stored_count b = length_types _ _ in
+    omega (arith, c.load_u32-count.ensures, c.if-count-ge1024.false)
 
 -- past the place's test
 found : (c : Else-place-ne0)
@@ -37,13 +39,13 @@ found : (c : Else-place-ne0)
     place_check (types_before b (stored_count b)) c.args.kind ≡ 0
 found c =
     let number' : (let b = c.args.buf.now in c.next_place_check-place.result ≡ place_check (types_before b (stored_count b)) c.args.kind) =
-        c.next_place_check-place.ensures ∙ ap (λ (n : ℕ). place_check (types_before c.args.buf.now n) c.args.kind) c.load_u32-count.ensures in
+    c.next_place_check-place.ensures ∙ ap (λ (n : ℕ). place_check (types_before c.args.buf.now n) c.args.kind) c.load_u32-count.ensures in
     sym number' ∙ c.if-place-ne0.false
 
 -- the room that is left
 left : (c : After-next_place_check-place)
     → (c.room-room.result ≡ room_of c.args.buf.now) × (c.args.used ≤ room_of c.args.buf.now)
-left c = (c.room-room.ensures, (read c.before.before.before.before.before).within)
+left c = (c.room-room.ensures, (was_read _ _ c.requires.buf_value).within)
 
 pub load_u32-count-requires : goal.load_u32-count-requires
 load_u32-count-requires c = omega (arith, read (goal.at.load_u32-count-requires c).Start)

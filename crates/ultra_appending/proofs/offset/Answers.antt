@@ -1,6 +1,5 @@
 -- `ultra_appending::offset` meets its contract: reading's refusal, the check's, or the used length.
 use mathlib.Core.Path.{◌≡◌, sym, ◌∙◌}
-use borrow.Author.Rules.{rules}
 use Rattle.refusals.specs.declared.Answer.TheVariants.{Done}
 use Rattle.ultra_reading.specs.Reading.{used_length}
 use Rattle.ultra_appending.proofs.Appending.{unread, append_refused, append_done}

@@ -1,7 +1,6 @@
 -- `ultra_appending::raise_count` meets its contract.
 use mathlib.Core.Path.{sym, ◌∙◌}
 use native.Mathlib.Omega.{arith}
-use borrow.Author.Rules.{rules}
 use Rattle.ultra_appending.proofs.Appending.{Read, was_read, appended_at, raise_refused, raise_done}
 use Rattle.ultra_appending.proofs.raise_count.Goals as goal
 use Rattle.ultra_appending.proofs.raise_count.Goals.{In-Done}
@@ -14,13 +13,13 @@ pub returns-in_default : goal.returns-in_default
 returns-in_default c = raise_refused _ _ _ _ _ _ c.in_default.is c.offset-answer.ensures
 
 pub load_u32-count-requires : goal.load_u32-count-requires
-load_u32-count-requires c = omega (arith, read (goal.at.load_u32-count-requires c).In-Done-1)
+load_u32-count-requires c = omega (arith, read (goal.at.load_u32-count-requires c).In-Done)
 
 pub overflow_add-count : goal.overflow_add-count
-overflow_add-count c = omega (arith, read (goal.at.overflow_add-count c).In-Done-1, c.load_u32-count.ensures)
+overflow_add-count c = omega (arith, read (goal.at.overflow_add-count c).In-Done, c.load_u32-count.ensures)
 
 pub store_u32-requires : goal.store_u32-requires
-store_u32-requires c = omega (arith, read (goal.at.store_u32-requires c).In-Done-1)
+store_u32-requires c = omega (arith, read (goal.at.store_u32-requires c).In-Done)
 
 pub returns : goal.returns
 returns c =

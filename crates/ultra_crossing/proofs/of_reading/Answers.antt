@@ -2,7 +2,6 @@
 use mathlib.Core.Path.{sym, ap, ◌∙◌}
 use Rattle.ultra_crossing.specs.Crossing.{reading_crossed}
 use native.Mathlib.Nat.{zero-add}
-use borrow.Author.Rules.{rules}
 use Rattle.ultra_crossing.proofs.of_reading.Goals as goal
 
 pub returns-in-Accepted : goal.returns-in-Accepted

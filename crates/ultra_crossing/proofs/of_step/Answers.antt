@@ -2,7 +2,6 @@
 use mathlib.Core.Path.{sym, ap, ◌∙◌}
 use Rattle.ultra_crossing.specs.Crossing.{step_crossed}
 use native.Mathlib.Nat.{zero-add}
-use borrow.Author.Rules.{rules}
 use Rattle.ultra_crossing.proofs.of_step.Goals as goal
 
 pub returns-in-Attribute : goal.returns-in-Attribute

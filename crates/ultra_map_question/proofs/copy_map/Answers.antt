@@ -4,7 +4,6 @@ use mathlib.Core.Path.{refl, sym, ap, ◌∙◌, subst}
 use mathlib.Core.List.{List}
 use lib.ListN.{length}
 use Rattle.ultra_map_question.proofs.MapLaws.{Copies, numbers_copied}
-use borrow.Author.Rules.{rules}
 use Rattle.ultra_map_question.proofs.copy_map.Goals as goal
 use Rattle.ultra_map_question.proofs.copy_map.Goals.{After-map_numbers-numbers}
 

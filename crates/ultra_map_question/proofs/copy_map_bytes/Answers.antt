@@ -6,7 +6,6 @@ use native.Mathlib.Omega.{arith}
 use lib.ListN.{length}
 use Rattle.ultra_map_question.proofs.MapLaws.{Copies, numbers_copied}
 use Rattle.ultra_map_question.proofs.MapBytes.{bytes_copied_law}
-use borrow.Author.Rules.{rules}
 use Rattle.ultra_map_question.proofs.copy_map_bytes.Goals as goal
 use Rattle.ultra_map_question.proofs.copy_map_bytes.Goals.{After-map_numbers-numbers}
 
@@ -23,4 +22,4 @@ pub returns : goal.returns
 returns c =
     let s = c.args in
     ap (λ (l : List ℕ). (c.map_numbers-numbers.result.answer, l)) c.copy.ensures
-    ∙ sym (bytes_copied_law s.buf.now s.out.now (λ i. omega (arith, c.type_inv.out i)) (λ i. omega (arith, c.type_inv.buf i)) _ (copies (goal.at.returns c).After-map_numbers-numbers))
+    ∙ sym (bytes_copied_law s.buf.now s.out.now (λ i. omega (arith, (goal.at.returns c).After-map_numbers-numbers.type_inv.out i)) (λ i. omega (arith, c.type_inv.buf i)) _ (copies (goal.at.returns c).After-map_numbers-numbers))

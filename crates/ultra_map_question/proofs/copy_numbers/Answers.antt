@@ -1,10 +1,9 @@
 -- `ultra_map_question::copy_numbers` meets its contract: after i turns the front of `out` has the first i numbers.
-use Prim.Native.Nat.{◌+◌, ◌-◌, ◌≤◌, ◌<◌}
+use Prim.Native.Nat.{◌<◌}
 use mathlib.Core.Path.{◌≡◌, refl}
-use mathlib.Core.List.{◌++◌}
 use native.Mathlib.Omega.{arith}
 use borrow.Author.Rules.{rules}
-use lib.ListN.{length, drop, length-set}
+use lib.ListN.{length, length-set}
 use Rattle.byte_layout.proofs.Copies.{front_more}
 use Rattle.words.specs.Words.{numbers_at}
 use Rattle.words.proofs.Numbers.{length_numbers}

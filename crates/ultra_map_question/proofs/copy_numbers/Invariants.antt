@@ -1,14 +1,9 @@
 -- `ultra_map_question::copy_numbers` meets its contract: after i turns the front of `out` has the first i numbers.
-use Prim.Native.Nat.{◌+◌, ◌-◌, ◌≤◌, ◌<◌}
-use mathlib.Core.Path.{◌≡◌, refl}
+use Prim.Native.Nat.{◌-◌, ◌≤◌}
+use mathlib.Core.Path.{◌≡◌}
 use mathlib.Core.List.{◌++◌}
-use native.Mathlib.Omega.{arith}
-use borrow.Author.Rules.{rules}
-use lib.ListN.{length, drop, length-set}
-use Rattle.byte_layout.proofs.Copies.{front_more}
+use lib.ListN.{length, drop}
 use Rattle.words.specs.Words.{numbers_at}
-use Rattle.words.proofs.Numbers.{length_numbers}
-use Rattle.ultra_map_question.proofs.MapLaws.{numbers_more}
 use Rattle.ultra_map_question.proofs.copy_numbers.Given as goal
 
 abbrev pub invariant-loop-i : goal.invariant-loop-i

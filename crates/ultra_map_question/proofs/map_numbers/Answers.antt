@@ -8,7 +8,6 @@ use Rattle.ultra_locating.specs.Passing.{Accepts}
 use Rattle.ultra_locating.proofs.Searches.{FirstOfType, first_of}
 use Rattle.ultra_map_question.specs.MapQuestion.{entries_stored, no_numbers, numbers_from}
 use Rattle.ultra_map_question.proofs.MapLaws.{numbers_passed, numbers_absent, numbers_room, numbers_found}
-use borrow.Author.Rules.{rules}
 use Rattle.ultra_map_question.proofs.map_numbers.Goals as goal
 use Rattle.ultra_map_question.proofs.map_numbers.Goals.{After-entries_at-entries, Else-start-eq0, In-Done}
 
@@ -20,17 +19,12 @@ accepts c = (_, sym c.used_length-answer.ensures ∙ c.in-Done.is)
 map : (c : Else-start-eq0) → FirstOfType c.args.buf.now 3 c.first_of_type-start.result
 map c =
     let accepts' : Accepts c.args.buf.now =
-        (_, sym c.used_length-answer.ensures ∙ c.in-Done.is) in
+    (_, sym c.used_length-answer.ensures ∙ c.in-Done.is) in
     first_of _ 3 _ accepts' c.first_of_type-start.ensures c.if-start-eq0.false
 
-entries : (c : After-entries_at-entries)
-    → let b = c.args.buf.now in c.entries_at-entries.result ≡ entries_stored b (start b (map c.before).found.index)
-entries c =
-    let map' : FirstOfType c.args.buf.now 3 c.first_of_type-start.result =
-        let accepts' : Accepts c.args.buf.now =
-        (_, sym c.used_length-answer.ensures ∙ c.in-Done.is) in
-        first_of _ 3 _ accepts' c.first_of_type-start.ensures c.if-start-eq0.false in
-    c.entries_at-entries.ensures ∙ ap (entries_stored c.args.buf.now) map'.at
+entries : (c : After-entries_at-entries) (m : FirstOfType c.args.buf.now 3 c.first_of_type-start.result)
+    → let b = c.args.buf.now in c.entries_at-entries.result ≡ entries_stored b (start b m.found.index)
+entries c m = c.entries_at-entries.ensures ∙ ap (entries_stored c.args.buf.now) m.at
 
 pub returns-in_default : goal.returns-in_default
 returns-in_default c =
@@ -53,8 +47,8 @@ pub returns-then-capacity-count : goal.returns-then-capacity-count
 returns-then-capacity-count c =
     c.no_numbers-then-capacity-count.ensures
     ∙ ap (λ (r : Refusal). no_numbers (Refused r)) c.new-then-capacity-count.ensures
-    ∙ numbers_room _ _ _ (accepts (goal.at.returns-then-capacity-count c).In-Done).1 (map (goal.at.returns-then-capacity-count c).Else-start-eq0).found (omega (arith, entries (goal.at.returns-then-capacity-count c).After-entries_at-entries, c.if-capacity-count.true))
+    ∙ numbers_room _ _ _ (accepts (goal.at.returns-then-capacity-count c).In-Done).1 (map (goal.at.returns-then-capacity-count c).Else-start-eq0).found (omega (arith, entries (goal.at.returns-then-capacity-count c).After-entries_at-entries (map (goal.at.returns-then-capacity-count c).Else-start-eq0), c.if-capacity-count.true))
 
 pub returns : goal.returns
 returns c =
-    ap₂ numbers_from (map (goal.at.returns c).Else-start-eq0).at (entries (goal.at.returns c).After-entries_at-entries) ∙ numbers_found _ _ _ (accepts (goal.at.returns c).In-Done).1 (map (goal.at.returns c).Else-start-eq0).found (omega (arith, entries (goal.at.returns c).After-entries_at-entries, c.if-capacity-count.false))
+    ap₂ numbers_from (map (goal.at.returns c).Else-start-eq0).at (entries (goal.at.returns c).After-entries_at-entries (map (goal.at.returns c).Else-start-eq0)) ∙ numbers_found _ _ _ (accepts (goal.at.returns c).In-Done).1 (map (goal.at.returns c).Else-start-eq0).found (omega (arith, entries (goal.at.returns c).After-entries_at-entries (map (goal.at.returns c).Else-start-eq0), c.if-capacity-count.false))

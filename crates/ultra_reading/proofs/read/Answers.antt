@@ -4,7 +4,6 @@ use native.Mathlib.Omega.{arith}
 use Rattle.ultra_reading.specs.Reading.{with_version, reading_of}
 use Rattle.ultra_stepping.proofs.HeadLaws.{HeadHolds}
 use Rattle.ultra_reading.proofs.ReadingLaws.{accepted_head}
-use borrow.Author.Rules.{rules}
 use Rattle.ultra_reading.proofs.read.Goals as goal
 use Rattle.ultra_reading.proofs.read.Goals.{In-Done}
 

@@ -8,7 +8,6 @@ use Rattle.ultra_stepping.specs.Checks.{head_check}
 use native.Mathlib.Omega.{arith}
 use Rattle.ultra_stepping.proofs.HeadLaws.{head_holds}
 use Rattle.ultra_reading.proofs.ReadingLaws.{head_refuses, head_goes_on}
-use borrow.Author.Rules.{rules}
 use Rattle.ultra_reading.proofs.used_length.Goals as goal
 use Rattle.ultra_reading.proofs.used_length.Goals.{Else-number-ne0}
 

@@ -1,11 +1,7 @@
 -- `reply::numbers` is safe and ends.
 use Prim.Native.Nat.{◌-◌, ◌≤◌}
 use mathlib.Core.Path.{◌≡◌}
-use borrow.Author.Rules.{rules}
 use lib.ListN.{length}
-use Rattle.call_frames.proofs.reply.numbers.Reads as reads
-use Rattle.call_frames.proofs.reply.numbers.Lts as lts
-use Rattle.call_frames.proofs.reply.number.Reads as number-reads
 use Rattle.call_frames.proofs.reply.numbers.Given as goal
 
 abbrev pub invariant-loop-i : goal.invariant-loop-i

@@ -4,7 +4,6 @@ use mathlib.Core.Path.{◌≡◌, refl, sym, ap, ◌∙◌}
 use mathlib.Core.List.{[], ◌∷◌}
 use native.Mathlib.Omega.{arith}
 use lib.ListN.{length}
-use borrow.Author.Rules.{rules}
 use Rattle.words.specs.Words.{u32_at}
 use Rattle.byte_layout.specs.Stored.{text_at}
 use Rattle.ultra_format.specs.Decoding.{module_at, entries_at}

@@ -1,13 +1,11 @@
 -- `attributes::of_type` meets its contract. The invariant: `at` is where attribute `i` starts, and what is left to gather, added from here on,
 -- leads to what all of it leads to.
-use Prim.Native.Nat.{ℕ, ◌+◌, ◌-◌, ◌*◌, ◌≤◌}
-use mathlib.Core.Path.{◌≡◌, refl, sym, ap, ◌∙◌}
-use mathlib.Core.List.{List}
+use Prim.Native.Nat.{◌+◌, ◌≤◌}
+use mathlib.Core.Path.{refl, sym, ap, ◌∙◌}
 use native.Mathlib.Omega.{arith}
 use borrow.Author.Rules.{rules}
 use Rattle.ultra_format.specs.Decoding.{start}
 use Rattle.ultra_locating.proofs.Located.{head_inside}
-use Rattle.handover_format.specs.Payloads.{Entry}
 use Rattle.export_list.specs.AttributeEntries.{becomes}
 use Rattle.export_list.proofs.Gathering.{left, Here, here_is, all_left, none_left}
 use Rattle.export_sizes.specs.Extents.{grown}

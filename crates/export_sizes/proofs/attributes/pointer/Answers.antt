@@ -1,10 +1,9 @@
 -- `attributes::pointer` meets its contract.
 use Prim.Native.Nat.{◌+◌}
-use mathlib.Core.Path.{◌≡◌, refl, sym, ap, ◌∙◌}
+use mathlib.Core.Path.{refl, sym, ap, ◌∙◌}
 use mathlib.Core.List.{[], ◌∷◌}
 use native.Mathlib.Omega.{arith}
 use lib.ListN.{length}
-use borrow.Author.Rules.{rules}
 use Rattle.handover_format.specs.Tags.{handover_rsdp}
 use Rattle.export_list.specs.ExportList.{bare}
 use Rattle.export_list.proofs.BareLaws.{bare_strings}

@@ -1,10 +1,8 @@
 -- `attributes::file` meets its contract: the name, then the meta.
-use Prim.Native.Nat.{◌+◌}
 use mathlib.Core.Path.{◌∙◌}
 use mathlib.Core.List.{[], ◌∷◌}
 use native.Mathlib.Omega.{arith}
-use borrow.Author.Rules.{rules}
-use Rattle.byte_layout.specs.Stored.{text_at, closed}
+use Rattle.byte_layout.specs.Stored.{closed}
 use Rattle.ultra_format.specs.Decoding.{module_at}
 use Rattle.handover_format.specs.WrittenForm.{strings}
 use Rattle.export_list.specs.ExportList.{file_entry}

@@ -1,10 +1,9 @@
 -- `attributes::of_attribute` meets its contract, by the type.
 use Prim.Native.Nat.{ℕ, ◌+◌, ◌-◌}
-use mathlib.Core.Path.{◌≡◌, refl, sym, ap, ◌∙◌}
-use mathlib.Core.List.{List, [], ◌∷◌}
+use mathlib.Core.Path.{◌≡◌, sym, ap, ◌∙◌}
+use mathlib.Core.List.{List}
 use native.Mathlib.Omega.{arith}
 use lib.ListN.{length}
-use borrow.Author.Rules.{rules}
 use Rattle.words.specs.Words.{u32_at}
 use Rattle.byte_layout.specs.Stored.{text_at, closed}
 use Rattle.handover_format.specs.Payloads.{Entry}
@@ -27,7 +26,7 @@ line_is : (c : In-5) → let a = c.args in
     strings (becomes a.buf.now a.at a.kind) ≡ closed (text_at a.buf.now (a.at + 8) (c.size-size.result - 8))
 line_is c =
     let here' : (let a = c.args in u32_at a.buf.now a.at ≡ a.kind) =
-        sym c.kind.ensures ∙ c.if-kind.false in
+    sym c.kind.ensures ∙ c.if-kind.false in
     let a = c.args in
     let b = a.buf.now in
     ap strings (is_line b a.at a.kind here' c.in-5.is)

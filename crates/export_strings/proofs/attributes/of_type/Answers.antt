@@ -1,6 +1,6 @@
 -- `attributes::of_type` meets its contract. The invariant: `at` is where attribute `i` starts, and the strings that are left, stored from here on,
 -- lead to what all of them lead to.
-use Prim.Native.Nat.{ℕ, ◌+◌, ◌-◌, ◌≤◌}
+use Prim.Native.Nat.{ℕ, ◌+◌}
 use mathlib.Core.Path.{◌≡◌, refl, sym, ap, ◌∙◌}
 use mathlib.Core.List.{List, ◌++◌}
 use native.Mathlib.Omega.{arith}

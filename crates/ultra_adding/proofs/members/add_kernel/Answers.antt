@@ -1,50 +1,42 @@
 -- `ultra_adding::members::add_kernel` meets its contract.
 use mathlib.Core.Path.{refl, ◌∙◌}
 use native.Mathlib.Omega.{arith}
-use borrow.Author.Rules.{rules}
 use Rattle.ultra_format.specs.Contexts.{Body}
 use Rattle.ultra_format.specs.Members.{size_suits, values, texts, ranges, ordered}
 use Rattle.ultra_format.specs.Plain.{written_size}
 use Rattle.ultra_format.specs.Additions.{kernel_of, guids_formed}
 use Rattle.ultra_arguments.proofs.Judged.{judged}
 use Rattle.ultra_adding.proofs.GivenMembers.{path_short, guids_wide}
-use Rattle.ultra_adding.proofs.Adding.{Space, Adds, adds}
+use Rattle.ultra_adding.proofs.Adding.{Adds, adds}
 use Rattle.ultra_adding.proofs.members.add_kernel.Goals as goal
-use Rattle.ultra_adding.proofs.members.add_kernel.Goals.{After-raise_count-answer, In-Done, Start}
+use Rattle.ultra_adding.proofs.members.add_kernel.Goals.{After-raise_count-answer}
 
-abbrev body : Start → Body
-body s = kernel_of c.args.phys c.args.virt c.args.size c.args.partition_type c.args.disk.now c.args.partition.now c.args.disk_index c.args.partition_index c.args.path.now
+abbrev body : After-raise_count-answer → Body
+body c = kernel_of c.args.phys c.args.virt c.args.size c.args.partition_type c.args.disk.now c.args.partition.now c.args.disk_index c.args.partition_index c.args.path.now
 
 add : (c : After-raise_count-answer)
-    → Adds c.args.buf.now c.raise_count-answer.new.buf (guids_formed c.args.disk.now c.args.partition.now) (body c.before.before.before.before.before.before.before) c.raise_count-answer.result 336
+    → Adds c.args.buf.now c.raise_count-answer.new.buf (guids_formed c.args.disk.now c.args.partition.now) (body c) c.raise_count-answer.result 336
 unfolding written_size size_suits values texts ranges ordered
 add c = adds c.raise_count-answer.ensures refl (c.check-number.ensures ∙ judged _ (body c) refl refl refl refl refl) refl
-
-here : (c : In-Done) → Space c.raise_count-answer.new.buf c.in-Done.used 336
-unfolding written_size size_suits values texts ranges ordered
-here c =
-    let add' : Adds c.args.buf.now c.raise_count-answer.new.buf (guids_formed c.args.disk.now c.args.partition.now) (body c.before.before.before.before.before.before.before) c.raise_count-answer.result 336 =
-        adds c.raise_count-answer.ensures refl (c.check-number.ensures ∙ judged _ (body c) refl refl refl refl refl) refl in
-    add'.space c.in-Done.is
 
 pub returns-in_default : goal.returns-in_default
 returns-in_default c = (add (goal.at.returns-in_default c).After-raise_count-answer).refused c.in_default.is
 
 pub slice_bounds-write-count : goal.slice_bounds-write-count
-slice_bounds-write-count c = omega (arith, here (goal.at.slice_bounds-write-count c).In-Done)
+slice_bounds-write-count c = omega (arith, (add (goal.at.slice_bounds-write-count c).After-raise_count-answer).space c.in-Done.is)
 
 pub slice_bounds-write-start : goal.slice_bounds-write-start
-slice_bounds-write-start c = omega (arith, here (goal.at.slice_bounds-write-start c).In-Done)
+slice_bounds-write-start c = omega (arith, (add (goal.at.slice_bounds-write-start c).After-raise_count-answer).space c.in-Done.is)
 
 pub write-requires : goal.write-requires
 unfolding written_size texts
 write-requires c =
     let d = (add (goal.at.write-requires c).After-raise_count-answer).holds c.in-Done.is in
     let g = guids_wide c.args.disk.now c.args.partition.now d.0 in
-    (omega (arith, here (goal.at.write-requires c).In-Done), g.0, g.1, omega (arith, path_short _ d.1.texts_hold))
+    (omega (arith, (add (goal.at.write-requires c).After-raise_count-answer).space c.in-Done.is), g.0, g.1, omega (arith, path_short _ d.1.texts_hold))
 
 pub overflow_add-result : goal.overflow_add-result
-overflow_add-result c = omega (arith, here (goal.at.overflow_add-result c).In-Done)
+overflow_add-result c = omega (arith, (add (goal.at.overflow_add-result c).After-raise_count-answer).space c.in-Done.is)
 
 pub returns : goal.returns
 returns c =

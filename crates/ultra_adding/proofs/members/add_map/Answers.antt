@@ -3,14 +3,13 @@ use Prim.Native.Nat.{ℕ, ◌+◌, ◌*◌, ◌/◌, ◌%◌}
 use mathlib.Core.Path.{◌≡◌, refl}
 use mathlib.Core.List.{List}
 use native.Mathlib.Omega.{arith}
-use borrow.Author.Rules.{rules}
 use borrow.Author.Tests.{eqb-true}
 use lib.ListN.{length}
 use Rattle.ultra_format.specs.Additions.{map_of, map_formed}
 use Rattle.ultra_format.proofs.Numbers.{map_given_size}
-use Rattle.ultra_adding.proofs.Adding.{Space, Adds, adds}
+use Rattle.ultra_adding.proofs.Adding.{Adds, adds}
 use Rattle.ultra_adding.proofs.members.add_map.Goals as goal
-use Rattle.ultra_adding.proofs.members.add_map.Goals.{After-raise_count-answer, In-Done}
+use Rattle.ultra_adding.proofs.members.add_map.Goals.{After-raise_count-answer}
 
 abbrev bytes : After-raise_count-answer → List ℕ
 bytes c = c.args.entries.now
@@ -18,33 +17,26 @@ bytes c = c.args.entries.now
 add : (c : After-raise_count-answer) → Adds c.args.buf.now c.raise_count-answer.new.buf (map_formed (bytes c)) (map_of (bytes c)) c.raise_count-answer.result (8 + length (bytes c) / 24 * 24)
 add c = adds c.raise_count-answer.ensures refl c.bytes_check-number.ensures (omega (arith, map_given_size (bytes c)))
 
-here : (c : In-Done)
-    → Space c.raise_count-answer.new.buf c.in-Done.used (8 + length (bytes c.before.before.before.before.before) / 24 * 24)
-here c =
-    let add' : Adds c.args.buf.now c.raise_count-answer.new.buf (map_formed (bytes c)) (map_of (bytes c)) c.raise_count-answer.result (8 + length (bytes c) / 24 * 24) =
-        adds c.raise_count-answer.ensures refl c.bytes_check-number.ensures (omega (arith, map_given_size (bytes c))) in
-    add'.space c.in-Done.is
-
 pub returns-in_default : goal.returns-in_default
 returns-in_default c = (add (goal.at.returns-in_default c).After-raise_count-answer).refused c.in_default.is
 
 pub slice_bounds-write_bytes-count : goal.slice_bounds-write_bytes-count
-slice_bounds-write_bytes-count c = omega (arith, here (goal.at.slice_bounds-write_bytes-count c).In-Done)
+slice_bounds-write_bytes-count c = omega (arith, (add (goal.at.slice_bounds-write_bytes-count c).After-raise_count-answer).space c.in-Done.is)
 
 pub slice_bounds-write_bytes-start : goal.slice_bounds-write_bytes-start
-slice_bounds-write_bytes-start c = omega (arith, here (goal.at.slice_bounds-write_bytes-start c).In-Done)
+slice_bounds-write_bytes-start c = omega (arith, (add (goal.at.slice_bounds-write_bytes-start c).After-raise_count-answer).space c.in-Done.is)
 
 pub write_bytes-requires : goal.write_bytes-requires
 write_bytes-requires c =
     let e : length (bytes (goal.at.write_bytes-requires c).After-raise_count-answer) % 24 ≡ 0 = eqb-true (length (bytes (goal.at.write_bytes-requires c).After-raise_count-answer) % 24) 0 ((add (goal.at.write_bytes-requires c).After-raise_count-answer).holds c.in-Done.is).0 in
-    let h = here (goal.at.write_bytes-requires c).In-Done in
+    let h = (add (goal.at.write_bytes-requires c).After-raise_count-answer).space c.in-Done.is in
     (omega (arith, map_given_size (bytes (goal.at.write_bytes-requires c).After-raise_count-answer)), e, omega (arith, map_given_size (bytes (goal.at.write_bytes-requires c).After-raise_count-answer)))
 
 pub overflow_cast-result : goal.overflow_cast-result
-overflow_cast-result c = omega (arith, here (goal.at.overflow_cast-result c).In-Done)
+overflow_cast-result c = omega (arith, (add (goal.at.overflow_cast-result c).After-raise_count-answer).space c.in-Done.is)
 
 pub overflow_add-result : goal.overflow_add-result
-overflow_add-result c = omega (arith, here (goal.at.overflow_add-result c).In-Done)
+overflow_add-result c = omega (arith, (add (goal.at.overflow_add-result c).After-raise_count-answer).space c.in-Done.is)
 
 pub returns : goal.returns
 returns c =

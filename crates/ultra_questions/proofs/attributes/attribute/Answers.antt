@@ -25,7 +25,9 @@ suits : (c : After-load_u32-size)
     → size_suits c.load_u32-size.result (decoded c.args.buf.now c.in-Done.start c.load_u32-size.result c.load_u32-kind.result) ≡ true
 suits c =
     let here' : (let s = c.args in Loaded s.buf.now s.index c.in-Done.start) =
-        let k = said c in loaded _ k.accepts _ _ k.below k.is in
+        let k : StartIs c.args.buf.now c.args.index c.in-Done.start =
+            start_said c.args.buf.now c.args.index _ (sym c.attribute_start-answer.ensures ∙ c.in-Done.is) in
+        loaded _ k.accepts _ _ k.below k.is in
     rw (c.load_u32-size.ensures, c.load_u32-kind.ensures) here'.suits
 
 pub returns-in_default : goal.returns-in_default

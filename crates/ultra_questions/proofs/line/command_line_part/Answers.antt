@@ -23,15 +23,10 @@ line c =
     first_of _ 5 _ accepts' c.first_of_type-start.ensures c.if-start-eq0.false
 
 -- its body is that of a command line
-body : (c : After-load_u32-size)
+body : (c : After-load_u32-size) (l : FirstOfType c.args.buf.now 5 c.first_of_type-start.result)
     → let b = c.args.buf.now in
-    decoded b c.first_of_type-start.result c.load_u32-size.result 5 ≡ (stored_attribute b (line c.before).found.index).body
-body c =
-    let line' : FirstOfType c.args.buf.now 5 c.first_of_type-start.result =
-        let accepts' : Accepts c.args.buf.now =
-        (_, sym c.used_length-answer.ensures ∙ c.in-Done.is) in
-        first_of _ 5 _ accepts' c.first_of_type-start.ensures c.if-start-eq0.false in
-    let l = line' in rw c.load_u32-size.ensures (rw l.type_is at l.here.body_is)
+    decoded b c.first_of_type-start.result c.load_u32-size.result 5 ≡ (stored_attribute b l.found.index).body
+body c l = rw c.load_u32-size.ensures (rw l.type_is at l.here.body_is)
 
 pub returns-in_default : goal.returns-in_default
 returns-in_default c =
@@ -59,4 +54,4 @@ of_body-requires c =
 pub returns : goal.returns
 returns c =
     let a = accepts (goal.at.returns c).In-Done in
-    c.of_body.ensures ∙ ap₂ body_part (line (goal.at.returns c).Else-start-eq0).at (body (goal.at.returns c).After-load_u32-size) ∙ line_found_law _ a.1 (line (goal.at.returns c).Else-start-eq0).found.is
+    c.of_body.ensures ∙ ap₂ body_part (line (goal.at.returns c).Else-start-eq0).at (body (goal.at.returns c).After-load_u32-size (line (goal.at.returns c).Else-start-eq0)) ∙ line_found_law _ a.1 (line (goal.at.returns c).Else-start-eq0).found.is

@@ -1,17 +1,14 @@
 -- `ultra_reading::walk::attributes` meets its contract. The invariant: `at` is where attribute `i` starts, none before it breaks one of
 -- 5 to 8, and the answer from it on is the answer from the first on.
-use Prim.Native.Nat.{◌-◌, ◌≤◌}
 use mathlib.Core.Path.{◌≡◌, refl}
 use native.Mathlib.Omega.{arith}
 use native.Mathlib.Nat.{sub-zero}
 use borrow.Author.Rules.{rules}
 use borrow.Author.Count.{below_none, below_more}
-use Rattle.ultra_format.specs.Places.{nearest}
-use Rattle.ultra_format.specs.Decoding.{start, types_before}
-use Rattle.ultra_stepping.specs.Walking.{InBounds}
+use Rattle.ultra_format.specs.Decoding.{types_before}
 use Rattle.ultra_stepping.proofs.WalkLaws.{start_first, Reached, reached, in_larger}
 use Rattle.ultra_places.proofs.PlaceLaws.{nearest_next}
-use Rattle.ultra_reading.specs.Reading.{check_of, highest_of, attributes_answer}
+use Rattle.ultra_reading.specs.Reading.{check_of, highest_of}
 use Rattle.ultra_reading.proofs.ReadingLaws.{attribute_in_bounds, highest_next, walk_refuse, walk_next, walk_end}
 use Rattle.ultra_reading.proofs.walk.attributes.Goals as goal
 use Rattle.ultra_reading.proofs.walk.attributes.Goals.{Else-number-ne0}

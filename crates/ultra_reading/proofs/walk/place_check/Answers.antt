@@ -2,7 +2,6 @@
 use native.Mathlib.Omega.{arith}
 use Rattle.ultra_places.proofs.PlaceLaws.{length_types}
 use Rattle.ultra_reading.proofs.ReadingLaws.{pass_above}
-use borrow.Author.Rules.{rules}
 use Rattle.ultra_reading.proofs.walk.place_check.Goals as goal
 
 pub returns-then-highest-kind : goal.returns-then-highest-kind
