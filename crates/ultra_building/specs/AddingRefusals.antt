@@ -13,7 +13,7 @@ use Rattle.refusals.specs.Answers.{number_of, value_of}
 use Rattle.ultra_format.specs.Contexts.{Platform, Body, type_of, Context, count, type_at, used}
 use Rattle.ultra_format.specs.Contexts.{Member.absent, Body.platform}
 use Rattle.lent_buffers.specs.Room.{room_of}
-use Rattle.ultra_format.specs.Members.{values, texts, ranges, ordered}
+use Rattle.ultra_format.specs.Members.{texts, ranges, ordered}
 use Rattle.ultra_format.specs.Places.{single, repeatable}
 use Rattle.ultra_format.specs.Decoding.{pick}
 use Rattle.ultra_format.specs.Plain.{written_size}

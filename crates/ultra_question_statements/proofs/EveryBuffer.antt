@@ -26,7 +26,7 @@ use Rattle.ultra_reading.specs.declared.Reading.TheVariants as reading
 use Rattle.ultra_acceptance.specs.Acceptance.{HoldsContext}
 use Rattle.ultra_acceptance.proofs.Acceptance.{accepts_exactly}
 use Rattle.ultra_questions.specs.declared.attributes.AttributeAnswer.{AttributeAnswer}
-use Rattle.lent_buffers.specs.LentParts.{part, no_part, PartOf, WholeOf}
+use Rattle.lent_buffers.specs.LentParts.{part, PartOf, WholeOf}
 use Rattle.ultra_questions.specs.Parts.{part_bytes}
 use Rattle.ultra_locating.specs.Searching.{Found.none, first_in, found_start, of_type}
 use Rattle.ultra_question_statements.specs.EveryBuffer.{RefusedBy, MapHeld, NoLine, LineHeld, AnswersOf, EveryBuffer}

@@ -133,7 +133,7 @@ module _ (lent s board : Bor (List ℕ)) (y : (j : ℕ) → get_or s.now j 0 < 2
       in_c : HeldIn c → At i t
       in_c (j, l, f, at) =
           let q = same_line_law s.now y c h i j t lent.now k l e f in
-          (at.0, at.1 ∙ ap (λ (n : ℕ). start_in c.attributes n + 8 + s.ptr.1) q.0, q.1)
+          (at.0, at.1 ∙ ap (λ (n : ℕ). start_in c.attributes n + 8 + s.ref_ptr.1) q.0, q.1)
 
       go : (WholeOf lent board × NoLine s.now) ⊎ LineHeld s.now lent s → At i t
       go (inl (w, n)) = absurd (has_line s.now y c h i t k e n)

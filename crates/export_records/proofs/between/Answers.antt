@@ -1,8 +1,7 @@
 -- `between` meets its contract: ranges, files, the command line and the pointer, each after those before it.
 use Prim.Native.Nat.{ℕ}
-use mathlib.Core.Path.{◌≡◌, refl, ◌∙◌}
+use mathlib.Core.Path.{refl, ◌∙◌}
 use mathlib.Core.List.{List, ◌++◌}
-use borrow.Author.Rules.{rules}
 use Rattle.ultra_format.specs.Decoding.{context_of}
 use Rattle.handover_format.specs.Payloads.{Entry}
 use Rattle.export_list.specs.ExportList.{gathered}

@@ -2,7 +2,6 @@
 use mathlib.Core.Bool.{true}
 use mathlib.Core.Path.{◌≡◌, sym, ◌∙◌}
 use native.Mathlib.Omega.{arith}
-use borrow.Author.Rules.{rules}
 use borrow.Author.Tests.{not-true, not-false}
 use Rattle.address_ranges.specs.Ranges.{range_fits}
 use Rattle.handover_export.proofs.ExportLaws.{gives_count, gives_load, gives_rsdp, gives_room, gives_none}

@@ -1,9 +1,8 @@
 -- `export` meets its contract: the reader's refusal, one of its own, or the payload.
 use Prim.Native.Nat.{◌+◌, ◌*◌, ◌≤◌}
-use mathlib.Core.Path.{◌≡◌, refl, sym, ap, ◌∙◌}
+use mathlib.Core.Path.{◌≡◌, sym, ap, ◌∙◌}
 use native.Mathlib.Omega.{arith}
 use lib.ListN.{length}
-use borrow.Author.Rules.{rules}
 use Rattle.lent_buffers.specs.Room.{room_of}
 use Rattle.refusals.specs.declared.Answer.{Answer}
 use Rattle.ultra_format.specs.Decoding.{context_of}

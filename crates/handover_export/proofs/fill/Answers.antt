@@ -1,10 +1,8 @@
 -- `fill` meets its contract: head, records and table, each after what is before it.
-use Prim.Native.Nat.{◌+◌}
-use mathlib.Core.Path.{◌≡◌, refl, sym, ap, ◌∙◌}
+use mathlib.Core.Path.{◌≡◌, sym, ap, ◌∙◌}
 use mathlib.Core.List.{List, ◌++◌}
 use native.Mathlib.Omega.{arith}
 use lib.ListN.{length}
-use borrow.Author.Rules.{rules}
 use Rattle.byte_layout.specs.Stored.{closed}
 use Rattle.ultra_format.specs.Decoding.{context_of}
 use Rattle.handover_format.specs.Payloads.{record_start}

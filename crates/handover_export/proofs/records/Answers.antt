@@ -1,10 +1,9 @@
 -- `records` meets its contract: SELF, what is between, and the end, each after those before it.
 use Prim.Native.Nat.{ℕ, ◌+◌, ◌≤◌}
-use mathlib.Core.Path.{◌≡◌, refl, sym, ap, ◌∙◌}
+use mathlib.Core.Path.{◌≡◌, refl, ap, ◌∙◌}
 use mathlib.Core.List.{List, [], ◌∷◌, ◌++◌}
 use native.Mathlib.Omega.{arith}
 use lib.ListN.{length, length-append}
-use borrow.Author.Rules.{rules}
 use Rattle.byte_layout.specs.Stored.{closed}
 use Rattle.ultra_format.specs.Decoding.{context_of}
 use Rattle.handover_format.specs.Payloads.{handover_end, Entry, record_start}

@@ -3,7 +3,6 @@ use Prim.Native.Nat.{◌+◌}
 use native.Mathlib.Omega.{arith}
 use borrow.Author.Tests.{le-leb, lt-leb}
 use Rattle.listing_format.proofs.LineLaws.{byte_number}
-use borrow.Author.Rules.{rules}
 use Rattle.listing_platform.proofs.depth.Goals as goal
 
 pub returns-then-size : goal.returns-then-size

@@ -1,6 +1,5 @@
 -- `late` meets its contract.
 use borrow.Author.Tests.{le-leb, lt-leb}
-use borrow.Author.Rules.{rules}
 use Rattle.listing_platform.proofs.late.Goals as goal
 
 pub returns-then-size-offset : goal.returns-then-size-offset

@@ -1,5 +1,4 @@
 -- `leading` meets its contract.
-use borrow.Author.Rules.{rules}
 use Rattle.listing_platform.proofs.leading.Goals as goal
 
 pub returns : goal.returns

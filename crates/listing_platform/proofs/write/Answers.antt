@@ -1,5 +1,4 @@
 -- `write` meets its contract.
-use borrow.Author.Rules.{rules}
 use Rattle.listing_platform.proofs.write.Goals as goal
 
 pub returns : goal.returns

@@ -1,5 +1,4 @@
 -- `ultra_building::begin` meets its contract.
-use borrow.Author.Rules.{rules}
 use Rattle.ultra_building.proofs.Beginnings.{begun_short, begun_good}
 use Rattle.ultra_building.proofs.begin.Goals as goal
 

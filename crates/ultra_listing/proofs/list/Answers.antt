@@ -1,7 +1,6 @@
 -- `list` meets its contract.
 use native.Mathlib.Omega.{arith}
 use Rattle.ultra_listing.proofs.Written.{list_short, list_whole}
-use borrow.Author.Rules.{rules}
 use Rattle.ultra_listing.proofs.list.Goals as goal
 
 pub returns-then-out-listing_length : goal.returns-then-out-listing_length

@@ -3,7 +3,6 @@ use native.Mathlib.Omega.{arith}
 use Rattle.key_value_text.proofs.Lengths.{text_place}
 use Rattle.listing_format.proofs.Bounds.{listing_fits}
 use Rattle.listing_format.specs.Listing.{listing}
-use borrow.Author.Rules.{rules}
 use Rattle.ultra_listing.proofs.listing_length.Goals as goal
 
 pub returns : goal.returns

@@ -4,7 +4,6 @@ use Rattle.key_value_text.proofs.LinePuts.{lines_put}
 use Rattle.listing_format.specs.Listing.{lines_of}
 use Rattle.ultra_locating.specs.Passing.{Accepts}
 use Rattle.ultra_locating.proofs.Located.{used_is_law}
-use borrow.Author.Rules.{rules}
 use Rattle.ultra_listing.proofs.write.Goals as goal
 
 pub accepted-requires : goal.accepted-requires

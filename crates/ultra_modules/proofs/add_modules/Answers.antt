@@ -1,5 +1,5 @@
 -- `add_modules` adds what is left, one module a turn.
-use Rattle.std.proofs.Common.{Bool, ◌≡◌, sym, ap, subst, ◌∙◌, not, length}
+use Rattle.std.proofs.Common.{Bool, sym, ap, subst, ◌∙◌, not, length}
 use lib.Dec.{T}
 use Rattle.ultra_modules.specs.Turns.{goes_on}
 use Rattle.ultra_modules.proofs.Turns.{left_from, starts_is, next_is, done_is}

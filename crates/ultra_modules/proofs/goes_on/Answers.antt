@@ -1,5 +1,3 @@
-
-use borrow.Author.Rules.{rules}
 use Rattle.ultra_modules.proofs.Turns.{goes_on_done}
 use Rattle.ultra_modules.proofs.goes_on.Goals as goal
 

@@ -1,9 +1,8 @@
 -- `attributes::of_attribute` meets its contract, by the type.
 use Prim.Native.Nat.{ℕ, ◌+◌, ◌-◌, ◌/◌}
-use mathlib.Core.Path.{◌≡◌, refl, sym, ap, subst, ◌∙◌}
+use mathlib.Core.Path.{◌≡◌, sym, ap, subst, ◌∙◌}
 use mathlib.Core.List.{List, [], ◌∷◌}
 use native.Mathlib.Omega.{arith}
-use borrow.Author.Rules.{rules}
 use Rattle.words.specs.Words.{u32_at}
 use Rattle.byte_layout.specs.Stored.{text_at}
 use Rattle.ultra_format.specs.Decoding.{entries_at}
@@ -27,7 +26,7 @@ asked c es e = subst (λ (l : List Entry). RowsFit c.args.out.now c.args.m l) e 
 pointer_is : (c : After-rsdp) → let a = c.args in becomes a.buf.now a.at a.kind ≡ pointer_entries c.rsdp.result
 pointer_is c =
     let here' : (let a = c.args in u32_at a.buf.now a.at ≡ a.kind) =
-        sym c.kind.ensures ∙ c.if-kind.false in
+    sym c.kind.ensures ∙ c.if-kind.false in
     let a = c.args in
     is_platform a.buf.now a.at a.kind here' c.in-1.is ∙ ap pointer_entries (sym c.rsdp.ensures)
 
@@ -35,7 +34,7 @@ map_is : (c : In-3) → let a = c.args in
     becomes a.buf.now a.at a.kind ≡ range_entries (entries_at a.buf.now (a.at + 8) ((c.size-size.result - 8) / 24))
 map_is c =
     let here' : (let a = c.args in u32_at a.buf.now a.at ≡ a.kind) =
-        sym c.kind.ensures ∙ c.if-kind.false in
+    sym c.kind.ensures ∙ c.if-kind.false in
     let a = c.args in
     let b = a.buf.now in
     is_map b a.at a.kind here' c.in-3.is ∙ ap (λ (n : ℕ). range_entries (entries_at b (a.at + 8) ((n - 8) / 24))) (sym c.size-size.ensures)
@@ -44,7 +43,7 @@ line_is : (c : In-5) → let a = c.args in
     becomes a.buf.now a.at a.kind ≡ line_entry (text_at a.buf.now (a.at + 8) (c.size-size.result - 8)) ∷ []
 line_is c =
     let here' : (let a = c.args in u32_at a.buf.now a.at ≡ a.kind) =
-        sym c.kind.ensures ∙ c.if-kind.false in
+    sym c.kind.ensures ∙ c.if-kind.false in
     let a = c.args in
     let b = a.buf.now in
     is_line b a.at a.kind here' c.in-5.is ∙ ap (λ (n : ℕ). line_entry (text_at b (a.at + 8) (n - 8)) ∷ []) (sym c.size-size.ensures)

@@ -1,10 +1,9 @@
 -- `attributes::of_type` meets its contract. The invariant: `at` is where attribute `i` starts, and the records that are left, stored from here on,
 -- lead to what all of them lead to.
-use Prim.Native.Nat.{ℕ, ◌+◌, ◌-◌, ◌≤◌}
-use mathlib.Core.Path.{◌≡◌, refl, sym, ap, subst, ◌∙◌}
+use Prim.Native.Nat.{ℕ, ◌+◌}
+use mathlib.Core.Path.{refl, sym, ap, subst, ◌∙◌}
 use mathlib.Core.List.{List}
 use native.Mathlib.Omega.{arith}
-use lib.ListN.{length}
 use borrow.Author.Rules.{rules}
 use Rattle.ultra_format.specs.Decoding.{start}
 use Rattle.ultra_locating.proofs.Located.{head_inside}

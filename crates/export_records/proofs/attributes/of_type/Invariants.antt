@@ -1,18 +1,11 @@
 -- `attributes::of_type` meets its contract. The invariant: `at` is where attribute `i` starts, and the records that are left, stored from here on,
 -- lead to what all of them lead to.
-use Prim.Native.Nat.{ℕ, ◌+◌, ◌-◌, ◌≤◌}
-use mathlib.Core.Path.{◌≡◌, refl, sym, ap, subst, ◌∙◌}
-use mathlib.Core.List.{List}
-use native.Mathlib.Omega.{arith}
+use Prim.Native.Nat.{◌-◌, ◌≤◌}
+use mathlib.Core.Path.{◌≡◌}
 use lib.ListN.{length}
-use borrow.Author.Rules.{rules}
 use Rattle.ultra_format.specs.Decoding.{start}
-use Rattle.ultra_locating.proofs.Located.{head_inside}
-use Rattle.handover_format.specs.Payloads.{Entry}
-use Rattle.export_list.specs.AttributeEntries.{becomes}
-use Rattle.export_list.proofs.Gathering.{left, Here, here_is, all_left, none_left}
+use Rattle.export_list.proofs.Gathering.{left}
 use Rattle.export_records.specs.Rows.{rows_put, RowsFit}
-use Rattle.export_records.proofs.RowLaws.{rows_put_none, rows_front, rows_rest, rows_step}
 use Rattle.export_records.proofs.attributes.of_type.Given as goal
 
 abbrev pub invariant-loop-i : goal.invariant-loop-i

@@ -1,9 +1,8 @@
 -- `ranges::all` meets its contract. The invariant: the ranges that are left, stored from here on, lead to what all of them lead to.
-use Prim.Native.Nat.{ℕ, ◌+◌, ◌-◌, ◌*◌, ◌≤◌}
+use Prim.Native.Nat.{ℕ, ◌+◌, ◌*◌}
 use mathlib.Core.Path.{◌≡◌, refl, sym, ap, subst, ◌∙◌}
 use mathlib.Core.List.{List, [], ◌∷◌, ◌++◌}
 use native.Mathlib.Omega.{arith}
-use lib.ListN.{length}
 use borrow.Author.Rules.{rules}
 use Rattle.ultra_format.specs.Decoding.{entry_at}
 use Rattle.handover_format.specs.Payloads.{Entry}

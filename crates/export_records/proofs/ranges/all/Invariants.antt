@@ -1,16 +1,9 @@
 -- `ranges::all` meets its contract. The invariant: the ranges that are left, stored from here on, lead to what all of them lead to.
-use Prim.Native.Nat.{ℕ, ◌+◌, ◌-◌, ◌*◌, ◌≤◌}
-use mathlib.Core.Path.{◌≡◌, refl, sym, ap, subst, ◌∙◌}
-use mathlib.Core.List.{List, [], ◌∷◌, ◌++◌}
-use native.Mathlib.Omega.{arith}
+use Prim.Native.Nat.{◌-◌, ◌≤◌}
+use mathlib.Core.Path.{◌≡◌}
 use lib.ListN.{length}
-use borrow.Author.Rules.{rules}
-use Rattle.ultra_format.specs.Decoding.{entry_at}
-use Rattle.handover_format.specs.Payloads.{Entry}
-use Rattle.export_list.specs.ExportList.{range_entry}
 use Rattle.export_records.specs.Rows.{rows_put, RowsFit}
-use Rattle.export_records.proofs.EntryWords.{ranges_left, ranges_split, ranges_whole, ranges_none}
-use Rattle.export_records.proofs.RowLaws.{rows_put_none, rows_front, rows_rest, rows_step}
+use Rattle.export_records.proofs.EntryWords.{ranges_left}
 use Rattle.export_records.proofs.ranges.all.Given as goal
 
 abbrev pub invariant-loop-i : goal.invariant-loop-i

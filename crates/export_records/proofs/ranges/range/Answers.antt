@@ -1,7 +1,6 @@
 -- `ranges::range` meets its contract.
 use mathlib.Core.Path.{◌≡◌, sym, ap, subst, ◌∙◌}
 use mathlib.Core.List.{[], ◌∷◌}
-use borrow.Author.Rules.{rules}
 use Rattle.ultra_format.specs.Decoding.{entry_at}
 use Rattle.handover_format.specs.Payloads.{Entry}
 use Rattle.export_list.specs.ExportList.{bare, tag_of, range_entry}

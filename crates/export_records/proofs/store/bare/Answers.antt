@@ -1,9 +1,7 @@
 -- `store::bare` meets its contract.
-use Prim.Native.Nat.{◌+◌}
-use mathlib.Core.Path.{◌≡◌, refl, ap}
+use mathlib.Core.Path.{refl, ap}
 use native.Mathlib.Omega.{arith}
 use lib.ListN.{length}
-use borrow.Author.Rules.{rules}
 use Rattle.export_list.specs.ExportList.{bare}
 use Rattle.export_list.proofs.BareLaws.{bare_strings, bare_words}
 use Rattle.export_records.proofs.RowLaws.{row_put}

@@ -1,7 +1,6 @@
 -- `store::file` meets its contract: the empty meta has a place of its own, after the name's closing zero.
-use mathlib.Core.Path.{◌≡◌, refl}
+use mathlib.Core.Path.{refl}
 use native.Mathlib.Omega.{arith}
-use borrow.Author.Rules.{rules}
 use Rattle.ultra_format.specs.Decoding.{module_at}
 use Rattle.export_list.specs.ExportList.{file_entry}
 use Rattle.export_list.proofs.BareLaws.{file_width}

@@ -1,7 +1,6 @@
 -- `store::line` meets its contract.
-use mathlib.Core.Path.{◌≡◌, refl}
+use mathlib.Core.Path.{refl}
 use native.Mathlib.Omega.{arith}
-use borrow.Author.Rules.{rules}
 use Rattle.byte_layout.specs.Stored.{text_at}
 use Rattle.export_list.specs.ExportList.{line_entry}
 use Rattle.export_list.proofs.BareLaws.{line_width}

@@ -1,7 +1,6 @@
 -- `store::pointer` meets its contract.
 use mathlib.Core.Path.{refl, sym, ap, subst, ◌∙◌}
 use mathlib.Core.List.{List}
-use borrow.Author.Rules.{rules}
 use Rattle.handover_format.specs.Payloads.{Entry}
 use Rattle.export_list.proofs.ByType.{no_pointer, one_pointer}
 use Rattle.export_records.specs.Rows.{rows_put, RowsFit}

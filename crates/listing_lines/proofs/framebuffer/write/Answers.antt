@@ -1,5 +1,4 @@
 -- `framebuffer::write` meets its contract.
-use borrow.Author.Rules.{rules}
 use Rattle.listing_lines.proofs.framebuffer.write.Goals as goal
 
 pub returns : goal.returns

@@ -2,7 +2,6 @@
 use mathlib.Core.Path.{sym, ◌∙◌}
 use borrow.Author.Tests.{eq-eqb, ne_eqb}
 use Rattle.listing_format.proofs.LineLaws.{guid_bytes}
-use borrow.Author.Rules.{rules}
 use Rattle.listing_lines.proofs.kernel.guids.Goals as goal
 
 pub returns-then-partition_type-eq3 : goal.returns-then-partition_type-eq3

@@ -1,5 +1,4 @@
 -- `kernel::partition` meets its contract.
-use borrow.Author.Rules.{rules}
 use Rattle.listing_lines.proofs.kernel.partition.Goals as goal
 
 pub returns : goal.returns

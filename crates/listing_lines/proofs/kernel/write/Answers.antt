@@ -1,6 +1,5 @@
 -- `kernel::write` meets its contract.
 use Rattle.key_value_text.proofs.LinePuts.{lines_append}
-use borrow.Author.Rules.{rules}
 use Rattle.listing_lines.proofs.kernel.write.Goals as goal
 
 pub returns : goal.returns

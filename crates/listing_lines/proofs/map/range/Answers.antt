@@ -1,5 +1,4 @@
 -- `map::range` meets its contract.
-use borrow.Author.Rules.{rules}
 use Rattle.listing_lines.proofs.map.range.Goals as goal
 
 pub returns : goal.returns

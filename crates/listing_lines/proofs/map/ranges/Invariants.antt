@@ -1,14 +1,10 @@
 -- `map::ranges` meets its contract. The invariant: the ranges that are left, put from here on, lead to what all of them lead to.
 use Prim.Native.Nat.{◌+◌, ◌-◌, ◌*◌, ◌≤◌}
-use mathlib.Core.Path.{◌≡◌, refl, sym, ◌∙◌}
-use native.Mathlib.Nat.{add-zero, sub-zero}
-use native.Mathlib.Omega.{arith}
+use mathlib.Core.Path.{◌≡◌}
 use lib.ListN.{length}
 use Rattle.key_value_text.specs.LineOutput.{put_lines}
 use Rattle.ultra_format.specs.Decoding.{entries_at}
-use Rattle.listing_format.proofs.LineLaws.{range_next, range_end}
 use Rattle.listing_format.specs.Listing.{range_lines}
-use borrow.Author.Rules.{rules}
 use Rattle.listing_lines.proofs.map.ranges.Given as goal
 
 abbrev pub invariant-loop-i : goal.invariant-loop-i

@@ -1,7 +1,6 @@
 -- `map::write` meets its contract.
 use Prim.Native.Nat.{◌+◌, ◌-◌, ◌/◌}
 use Rattle.listing_format.proofs.LineLaws.{length_entries}
-use borrow.Author.Rules.{rules}
 use Rattle.listing_lines.proofs.map.write.Goals as goal
 
 pub returns : goal.returns

@@ -1,5 +1,4 @@
 -- `module::write` meets its contract.
-use borrow.Author.Rules.{rules}
 use Rattle.listing_lines.proofs.module.write.Goals as goal
 
 pub returns : goal.returns

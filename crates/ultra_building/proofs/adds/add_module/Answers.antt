@@ -3,7 +3,6 @@ use Prim.Native.Nat.{ℕ}
 use mathlib.Core.Path.{ap, ◌∙◌}
 use mathlib.Core.Bool.{true}
 use mathlib.Core.List.{List}
-use borrow.Author.Rules.{rules}
 use Rattle.ultra_format.specs.Additions.{module_of, body_given}
 use Rattle.ultra_adding.specs.Adding.{added_members}
 use Rattle.ultra_building.proofs.GivenRecords.{text_part}

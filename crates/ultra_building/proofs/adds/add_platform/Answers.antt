@@ -1,6 +1,5 @@
 -- `ultra_building::adds::add_platform` meets its contract: the members are those of the record.
 use mathlib.Core.Path.{◌∙◌}
-use borrow.Author.Rules.{rules}
 use Rattle.ultra_format.specs.Additions.{platform_of, body_given}
 use Rattle.ultra_adding.specs.Adding.{added_members}
 use Rattle.ultra_building.proofs.GivenRecords.{text_part, record_added}

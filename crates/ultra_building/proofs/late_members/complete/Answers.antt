@@ -1,5 +1,4 @@
 -- `ultra_building::late_members::complete` meets its contract: each return from the tests that lead there.
-use borrow.Author.Rules.{rules}
 use Rattle.ultra_format.specs.Members.{size_suits}
 use Rattle.words.proofs.Comparisons.{failed, held}
 use Rattle.ultra_building.proofs.late_members.complete.Goals as goal

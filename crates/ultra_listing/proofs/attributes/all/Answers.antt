@@ -1,11 +1,10 @@
 -- `attributes::all` meets its contract. The invariant: `at` is where attribute `i` starts, and the attributes that are left, put from here
 -- on, lead to what all of them lead to.
-use Prim.Native.Nat.{ℕ, ◌+◌, ◌-◌, ◌≤◌}
+use Prim.Native.Nat.{ℕ}
 use mathlib.Core.Path.{◌≡◌, refl, sym, ap, ◌∙◌}
 use mathlib.Core.List.{List}
 use native.Mathlib.Nat.{sub-zero}
 use native.Mathlib.Omega.{arith}
-use lib.ListN.{length}
 use Rattle.key_value_text.specs.Lines.{Line}
 use Rattle.key_value_text.specs.LineOutput.{put_lines}
 use Rattle.ultra_format.specs.Decoding.{start, stored_type, stored_size, attributes_from}
@@ -25,13 +24,13 @@ here c =
 kind : (c : After-kind-kind) → c.kind-kind.result ≡ stored_type c.args.buf.now c.loop-i.i
 kind c =
     let here' : Loaded c.args.buf.now c.loop-i.i c.loop-i.at =
-        loaded c.args.buf.now c.requires c.loop-i.i _ (omega (arith, c.count-count.ensures)) c.loop-i.invariant.0 in
+    loaded c.args.buf.now c.requires c.loop-i.i _ (omega (arith, c.count-count.ensures)) c.loop-i.invariant.0 in
     c.kind-kind.ensures ∙ here'.reached.type_is
 
 size : (c : After-size-size) → c.size-size.result ≡ stored_size c.args.buf.now c.loop-i.i
 size c =
     let here' : Loaded c.args.buf.now c.loop-i.i c.loop-i.at =
-        loaded c.args.buf.now c.requires c.loop-i.i _ (omega (arith, c.count-count.ensures)) c.loop-i.invariant.0 in
+    loaded c.args.buf.now c.requires c.loop-i.i _ (omega (arith, c.count-count.ensures)) c.loop-i.invariant.0 in
     c.size-size.ensures ∙ here'.reached.size_is
 
 pub count-count-requires : goal.count-count-requires

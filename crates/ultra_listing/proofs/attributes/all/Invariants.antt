@@ -1,18 +1,11 @@
 -- `attributes::all` meets its contract. The invariant: `at` is where attribute `i` starts, and the attributes that are left, put from here
 -- on, lead to what all of them lead to.
-use Prim.Native.Nat.{ℕ, ◌+◌, ◌-◌, ◌≤◌}
-use mathlib.Core.Path.{◌≡◌, refl, sym, ap, ◌∙◌}
-use mathlib.Core.List.{List}
-use native.Mathlib.Nat.{sub-zero}
-use native.Mathlib.Omega.{arith}
+use Prim.Native.Nat.{◌-◌, ◌≤◌}
+use mathlib.Core.Path.{◌≡◌}
 use lib.ListN.{length}
-use Rattle.key_value_text.specs.Lines.{Line}
 use Rattle.key_value_text.specs.LineOutput.{put_lines}
-use Rattle.ultra_format.specs.Decoding.{start, stored_type, stored_size, attributes_from}
-use Rattle.ultra_locating.proofs.Located.{Loaded, head_inside, loaded}
-use Rattle.listing_format.proofs.LineLaws.{lines_at, attribute_next, attribute_end}
+use Rattle.ultra_format.specs.Decoding.{start, attributes_from}
 use Rattle.listing_format.specs.Listing.{attributes_lines}
-use borrow.Author.Rules.{rules}
 use Rattle.ultra_listing.proofs.attributes.all.Given as goal
 
 abbrev pub invariant-loop-i : goal.invariant-loop-i

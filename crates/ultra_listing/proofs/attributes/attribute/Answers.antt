@@ -4,7 +4,6 @@ use Rattle.ultra_format.proofs.Sizes.{platform_least, kernel_least, module_least
 use Rattle.ultra_format.specs.Decoding.{decoded}
 use Rattle.listing_format.proofs.LineLaws.{decoded_other}
 use Rattle.listing_format.specs.Listing.{body_lines}
-use borrow.Author.Rules.{rules}
 use Rattle.ultra_listing.proofs.attributes.attribute.Goals as goal
 
 pub write-requires : goal.write-requires

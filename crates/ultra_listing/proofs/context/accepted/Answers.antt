@@ -3,7 +3,6 @@ use native.Mathlib.Omega.{arith}
 use Rattle.key_value_text.proofs.LinePuts.{lines_append}
 use Rattle.listing_format.proofs.LineLaws.{context_lines_law}
 use Rattle.ultra_locating.proofs.Located.{head_inside}
-use borrow.Author.Rules.{rules}
 use Rattle.ultra_listing.proofs.context.accepted.Goals as goal
 
 pub bounds-buf-0 : goal.bounds-buf-0

@@ -1,5 +1,4 @@
 -- `context::refused` meets its contract.
-use borrow.Author.Rules.{rules}
 use Rattle.ultra_listing.proofs.context.refused.Goals as goal
 
 pub returns : goal.returns

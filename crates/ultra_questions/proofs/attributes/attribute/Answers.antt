@@ -7,7 +7,6 @@ use Rattle.ultra_format.specs.Decoding.{decoded}
 use Rattle.ultra_locating.proofs.Located.{Loaded, loaded}
 use Rattle.ultra_questions.specs.AttributeQuestion.{unanswered}
 use Rattle.ultra_questions.proofs.AttributeLaws.{StartIs, start_said, answer_passed, answer_found, answer_loaded}
-use borrow.Author.Rules.{rules}
 use Rattle.ultra_questions.proofs.attributes.attribute.Goals as goal
 use Rattle.ultra_questions.proofs.attributes.attribute.Goals.{After-load_u32-size, In-Done}
 
@@ -25,9 +24,9 @@ suits : (c : After-load_u32-size)
     → size_suits c.load_u32-size.result (decoded c.args.buf.now c.in-Done.start c.load_u32-size.result c.load_u32-kind.result) ≡ true
 suits c =
     let here' : (let s = c.args in Loaded s.buf.now s.index c.in-Done.start) =
-        let k : StartIs c.args.buf.now c.args.index c.in-Done.start =
-            start_said c.args.buf.now c.args.index _ (sym c.attribute_start-answer.ensures ∙ c.in-Done.is) in
-        loaded _ k.accepts _ _ k.below k.is in
+    let k : StartIs c.args.buf.now c.args.index c.in-Done.start =
+    start_said c.args.buf.now c.args.index _ (sym c.attribute_start-answer.ensures ∙ c.in-Done.is) in
+    loaded _ k.accepts _ _ k.below k.is in
     rw (c.load_u32-size.ensures, c.load_u32-kind.ensures) here'.suits
 
 pub returns-in_default : goal.returns-in_default

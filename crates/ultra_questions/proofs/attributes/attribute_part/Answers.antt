@@ -5,7 +5,6 @@ use lib.ListN.{length}
 use Rattle.ultra_questions.specs.declared.attributes.AttributeAnswer.{AttributeAnswer}
 use Rattle.lent_buffers.specs.LentParts.{PartOf}
 use Rattle.ultra_questions.proofs.AttributeLaws.{part_inside}
-use borrow.Author.Rules.{rules}
 use Rattle.ultra_questions.proofs.attributes.attribute_part.Goals as goal
 
 pub slice-requires : goal.slice-requires

@@ -6,7 +6,6 @@ use Rattle.ultra_locating.specs.Passing.{Accepts}
 use Rattle.ultra_acceptance.proofs.Walked.{in_bounds}
 use Rattle.ultra_locating.proofs.Located.{reading, head_inside, inside}
 use Rattle.ultra_questions.proofs.AttributeLaws.{start_passed, start_past, start_found}
-use borrow.Author.Rules.{rules}
 use Rattle.ultra_questions.proofs.attributes.attribute_start.Goals as goal
 use Rattle.ultra_questions.proofs.attributes.attribute_start.Goals.{In-Done}
 

@@ -1,5 +1,4 @@
 -- `ultra_questions::attributes::unanswered` meets its contract.
-use borrow.Author.Rules.{rules}
 use Rattle.ultra_questions.proofs.attributes.unanswered.Goals as goal
 
 pub returns : goal.returns

@@ -5,7 +5,6 @@ use lib.ListN.{length}
 use Rattle.lent_buffers.specs.declared.Part.{Part}
 use Rattle.lent_buffers.specs.LentParts.{PartOf}
 use Rattle.ultra_questions.proofs.LineLaws.{line_within, hands_line, hands_board}
-use borrow.Author.Rules.{rules}
 use Rattle.ultra_questions.proofs.line.command_line.Goals as goal
 
 pub slice-line-requires : goal.slice-line-requires

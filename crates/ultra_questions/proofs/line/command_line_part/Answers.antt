@@ -1,5 +1,5 @@
 -- `ultra_questions::line::command_line_part` meets its contract.
-use mathlib.Core.Path.{◌≡◌, sym, ap, ap₂, ◌∙◌}
+use mathlib.Core.Path.{◌≡◌, sym, ap₂, ◌∙◌}
 use native.Mathlib.Omega.{arith}
 use Rattle.ultra_format.specs.Decoding.{decoded, stored_attribute}
 use Rattle.ultra_locating.specs.Passing.{Accepts}
@@ -7,7 +7,6 @@ use Rattle.ultra_questions.specs.Parts.{body_part}
 use Rattle.ultra_locating.specs.Searching.{of_type}
 use Rattle.ultra_locating.proofs.Searches.{none_at, FirstOfType, first_of}
 use Rattle.ultra_questions.proofs.LineLaws.{line_passed, line_found_law}
-use borrow.Author.Rules.{rules}
 use Rattle.ultra_questions.proofs.line.command_line_part.Goals as goal
 use Rattle.ultra_questions.proofs.line.command_line_part.Goals.{After-load_u32-size, Else-start-eq0, In-Done}
 
@@ -19,7 +18,7 @@ accepts c = (_, sym c.used_length-answer.ensures ∙ c.in-Done.is)
 line : (c : Else-start-eq0) → FirstOfType c.args.buf.now 5 c.first_of_type-start.result
 line c =
     let accepts' : Accepts c.args.buf.now =
-        (_, sym c.used_length-answer.ensures ∙ c.in-Done.is) in
+    (_, sym c.used_length-answer.ensures ∙ c.in-Done.is) in
     first_of _ 5 _ accepts' c.first_of_type-start.ensures c.if-start-eq0.false
 
 -- its body is that of a command line

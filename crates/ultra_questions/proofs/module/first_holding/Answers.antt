@@ -1,15 +1,15 @@
 -- `ultra_questions::module::first_holding` meets its contract. The invariant: `at` is where attribute `i` starts, and the search from
 -- there on finds what the whole search finds.
-use Prim.Native.Nat.{ℕ, ◌-◌, ◌≤◌}
+use Prim.Native.Nat.{ℕ}
 use mathlib.Core.Path.{◌≡◌, refl, sym, ap, ◌∙◌}
 use native.Mathlib.Omega.{arith}
 use borrow.Author.Rules.{rules}
 use Rattle.words.specs.Words.{u32_at}
-use Rattle.ultra_format.specs.Decoding.{decoded, start, stored_attribute, context_of}
-use Rattle.ultra_locating.specs.Searching.{first_in, found_start}
+use Rattle.ultra_format.specs.Decoding.{decoded, start, stored_attribute}
+use Rattle.ultra_locating.specs.Searching.{found_start}
 use Rattle.ultra_questions.specs.ModuleQuestion.{holding}
 use Rattle.ultra_locating.proofs.Located.{Loaded, head_inside, loaded}
-use Rattle.ultra_locating.proofs.Searches.{searched, search_here, search_next, search_end, search_whole}
+use Rattle.ultra_locating.proofs.Searches.{search_here, search_next, search_end, search_whole}
 use Rattle.ultra_questions.proofs.module.first_holding.Goals as goal
 use Rattle.ultra_questions.proofs.module.first_holding.Goals.{After-holds, In-loop-i}
 
@@ -23,7 +23,7 @@ tested : (c : After-holds)
     → c.holds.result ≡ holding c.args.address (stored_attribute c.args.buf.now c.loop-i.i).body
 tested c =
     let here' : Loaded c.args.buf.now c.loop-i.i c.loop-i.at =
-        loaded c.args.buf.now c.requires c.loop-i.i _ (omega (arith, c.load_u32-count.ensures)) c.loop-i.invariant.0 in
+    loaded c.args.buf.now c.requires c.loop-i.i _ (omega (arith, c.load_u32-count.ensures)) c.loop-i.invariant.0 in
     let s = c.args in
     let b = s.buf.now in
     c.holds.ensures

@@ -1,15 +1,11 @@
 -- `ultra_questions::module::first_holding` meets its contract. The invariant: `at` is where attribute `i` starts, and the search from
 -- there on finds what the whole search finds.
-use Prim.Native.Nat.{ℕ, ◌-◌, ◌≤◌}
-use mathlib.Core.Path.{◌≡◌, refl, sym, ap, ◌∙◌}
-use native.Mathlib.Omega.{arith}
-use borrow.Author.Rules.{rules}
-use Rattle.words.specs.Words.{u32_at}
-use Rattle.ultra_format.specs.Decoding.{decoded, start, stored_attribute, context_of}
-use Rattle.ultra_locating.specs.Searching.{first_in, found_start}
+use Prim.Native.Nat.{◌-◌, ◌≤◌}
+use mathlib.Core.Path.{◌≡◌}
+use Rattle.ultra_format.specs.Decoding.{start, context_of}
+use Rattle.ultra_locating.specs.Searching.{first_in}
 use Rattle.ultra_questions.specs.ModuleQuestion.{holding}
-use Rattle.ultra_locating.proofs.Located.{Loaded, head_inside, loaded}
-use Rattle.ultra_locating.proofs.Searches.{searched, search_here, search_next, search_end, search_whole}
+use Rattle.ultra_locating.proofs.Searches.{searched}
 use Rattle.ultra_questions.proofs.module.first_holding.Given as goal
 
 abbrev pub invariant-loop-i : goal.invariant-loop-i

@@ -5,7 +5,6 @@ use native.Mathlib.Omega.{arith}
 use Rattle.ultra_format.proofs.Sizes.{module_least}
 use Rattle.address_ranges.specs.Ranges.{pages_cover}
 use Rattle.ultra_questions.proofs.BodyLaws.{no_module_law, is_module}
-use borrow.Author.Rules.{rules}
 use Rattle.ultra_questions.proofs.module.holds.Goals as goal
 use Rattle.ultra_questions.proofs.module.holds.Goals.{Else-load_u32-ne-MODULE}
 

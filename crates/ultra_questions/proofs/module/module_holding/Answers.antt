@@ -3,7 +3,6 @@ use mathlib.Core.Path.{sym, ap, ◌∙◌}
 use Rattle.refusals.specs.declared.Answer.TheVariants.{Done}
 use Rattle.ultra_locating.specs.Passing.{Accepts}
 use Rattle.ultra_questions.proofs.ModuleLaws.{module_passed, module_read}
-use borrow.Author.Rules.{rules}
 use Rattle.ultra_questions.proofs.module.module_holding.Goals as goal
 use Rattle.ultra_questions.proofs.module.module_holding.Goals.{In-Done}
 

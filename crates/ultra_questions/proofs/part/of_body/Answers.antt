@@ -5,7 +5,6 @@ use native.Mathlib.Omega.{arith}
 use Rattle.ultra_format.proofs.Sizes.{line_least, map_size_law}
 use Rattle.lent_buffers.specs.LentParts.{part}
 use Rattle.ultra_questions.proofs.BodyLaws.{map_part, line_part, no_part_law}
-use borrow.Author.Rules.{rules}
 use Rattle.ultra_questions.proofs.part.of_body.Goals as goal
 use Rattle.ultra_questions.proofs.part.of_body.Goals.{Then-kind-eq-COMMAND_LINE, Then-kind-eq-MEMORY_MAP}
 
