@@ -1,6 +1,6 @@
 -- Every export ends in one of the three ways: by the statements on reading, on refusals and on success.
 use Prim.Native.Nat.{ℕ}
-use mathlib.Core.Path.{◌≡◌, refl, sym, ap, ◌∙◌}
+use mathlib.Core.Path.{◌≡◌, refl}
 use mathlib.Core.List.{List}
 use Rattle.byte_layout.specs.Stored.{Bytes}
 use Rattle.refusals.specs.declared.Answer.{Answer}

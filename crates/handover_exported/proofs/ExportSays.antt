@@ -16,13 +16,12 @@ use Rattle.ultra_format.specs.Contexts.{Platform, Module, Body, type_of, Attribu
 use Rattle.ultra_format.specs.Contexts.{Body.platform, Body.kernel, Body.memory_map, Body.module_info, Body.command_line, Body.framebuffer, Body.other}
 use Rattle.ultra_format.specs.Places.{single}
 use Rattle.ultra_format.specs.Rules.{Meets}
-use Rattle.ultra_acceptance.specs.Acceptance.{HoldsContext}
 use Rattle.handover_format.specs.Payloads.{handover_end, Entry, count, no_entry, entry_in}
 use Rattle.handover_format.specs.Tags.{handover_self, handover_rsdp}
 use Rattle.handover_format.specs.PayloadDecoding.{pick}
 use Rattle.handover_written.specs.Placing.{AsGiven}
 use Rattle.handover_written.proofs.Placing.{each_as_given}
-use Rattle.export_list.specs.ExportList.{bare, range_entry, range_entries, file_entry, line_entry, pointer_entries, records_of, records_if, gathered, between, no_platform, platform_or, agent_of, export_size, export_entries, export_list}
+use Rattle.export_list.specs.ExportList.{bare, range_entry, range_entries, file_entry, pointer_entries, records_of, records_if, gathered, between, no_platform, platform_or, agent_of, export_entries, export_list}
 use Rattle.export_list.proofs.BareLaws.{ranges_length}
 use Rattle.handover_exported.specs.ExportSays.{no_range, asks, all_ask, Asked, Asked.range, Asked.file, Asked.line, Asked.pointer, IsAt, InOrder, ExportSays, ExportSaysAll}
 use Rattle.handover_exported.proofs.Entries.{Each, each_none, each_more, each_append, each_at}

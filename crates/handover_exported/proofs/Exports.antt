@@ -1,7 +1,7 @@
 -- Exporting leaves a payload that is held, and so accepted and read as the list of the context.
 use Prim.Native.Nat.{ℕ, zero, suc, ◌+◌, ◌≤◌, ◌<◌}
 use mathlib.Core.Path.{◌≡◌, refl, sym, ap, ◌∙◌, subst}
-use mathlib.Core.List.{List, [], ◌∷◌, ◌++◌}
+use mathlib.Core.List.{List, [], ◌∷◌}
 use native.Mathlib.Omega.{arith}
 use lib.ListN.{length, get_or}
 use Rattle.byte_layout.specs.Stored.{over}
@@ -15,7 +15,6 @@ use Rattle.ultra_acceptance.specs.Acceptance.{HoldsContext}
 use Rattle.handover_format.specs.Payloads.{handover_end, Entry}
 use Rattle.handover_format.specs.Tags.{handover_self}
 use Rattle.handover_format.specs.WrittenForm.{payload_size, payload, payload_bytes}
-use Rattle.handover_format.proofs.WrittenLaws.{length_placed}
 use Rattle.handover_acceptance.specs.PayloadAcceptance.{HoldsPayload}
 use Rattle.handover_demand_3.proofs.PayloadDemand3.{payload_demand_3}
 use Rattle.handover_written.specs.Placing.{Text, Sound, SoundRecords}

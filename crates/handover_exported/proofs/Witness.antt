@@ -1,14 +1,13 @@
 -- The examples: listed and every type by computing, from the contexts that their buffers hold; and what the statements say of them.
 use Prim.Native.Nat.{ℕ}
-use mathlib.Core.Path.{◌≡◌, refl, sym, ap, ◌∙◌, subst}
-use mathlib.Core.List.{List, []}
+use mathlib.Core.Path.{◌≡◌, refl, ap, ◌∙◌, subst}
+use mathlib.Core.List.{List}
 use native.Mathlib.Omega.{arith}
 use lib.ListN.{take}
 use Rattle.words.specs.Words.{number_at}
 use Rattle.byte_layout.specs.Fields.{cells, filled}
 use Rattle.byte_layout.specs.Stored.{bytes_at, text_at}
 use Rattle.refusals.specs.Answers.{refused}
-use Rattle.refusals.specs.declared.Answer.{Answer}
 use Rattle.refusals.specs.declared.Answer.TheVariants.{Done}
 use Rattle.ultra_format.specs.Members.{every, size_suits, values, kernel_values, module_values, bpp_suits, framebuffer_values, texts, ascii_text, path_text, ranges, ordered, entries_ordered, body_check}
 use Rattle.ultra_format.specs.Places.{placed, occurs, place_check}
@@ -22,7 +21,6 @@ use Rattle.handover_format.specs.PayloadLayouts.{entries_fields}
 use Rattle.handover_format.specs.WrittenForm.{closed_if, strings, words_at, placed_from}
 use Rattle.handover_demand_3.specs.PayloadDemand3.{ReadingIs}
 use Rattle.export_list.specs.ExportList.{tag_of, range_entries, pointer_entries, records_of, records_if, gathered, platform_or, export_list}
-use Rattle.export_list.specs.ExportExamples.{listed_payload}
 use Rattle.handover_export.specs.Exporting.{tests_of, context_exported, exported}
 use Rattle.handover_exported.specs.ExportSays.{Asked.range, Asked.file, Asked.line, Asked.pointer, ExportSays}
 use Rattle.handover_exported.specs.Witness.{out, every_type_payload, pointed, high, pages, Witnessed}

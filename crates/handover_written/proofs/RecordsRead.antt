@@ -1,9 +1,9 @@
 -- The records that a reading gives are the bytes that the buffer has.
-use Prim.Native.Nat.{ℕ, zero, suc, ◌+◌, ◌*◌, ◌<◌}
+use Prim.Native.Nat.{ℕ, suc, ◌+◌, ◌*◌, ◌<◌}
 use mathlib.Core.Path.{◌≡◌, refl, sym, ap, ap₂, ◌∙◌, subst}
 use mathlib.Core.List.{List, [], ◌∷◌, ◌++◌}
 use native.Mathlib.Omega.{arith}
-use native.Mathlib.Nat.{add-zero, zero-add}
+use native.Mathlib.Nat.{add-zero}
 use lib.ListN.{length, get_or}
 use lib.Seq.{ext_get_or}
 use Rattle.byte_layout.specs.Fields.{Cell, Cell.byte, Cell.silent, Field, Field.number, cells, width, filled}
@@ -15,10 +15,10 @@ use Rattle.byte_layout.proofs.FieldLaws.{length_cells, cells_append}
 use Rattle.byte_layout.proofs.Written.{filled_append}
 use Rattle.byte_layout.proofs.Runs.{StandsAt, stands_back}
 use Rattle.handover_format.specs.declared.records.Record.{Record}
-use Rattle.handover_format.specs.Payloads.{Entry, Payload, count, no_entry, words_in}
+use Rattle.handover_format.specs.Payloads.{Entry, Payload, count, no_entry}
 use Rattle.handover_format.specs.PayloadLayouts.{magic, record_fields, entries_fields, front_fields, RowOf.front}
 use Rattle.handover_format.specs.PayloadDecoding.{stored_count}
-use Rattle.handover_format.proofs.PayloadRows.{Says, opens_says, entries_width}
+use Rattle.handover_format.proofs.PayloadRows.{opens_says, entries_width}
 use Rattle.handover_format.proofs.Silence.{Loud, loud_front}
 use Rattle.handover_questions.specs.declared.RecordAnswer.{RecordAnswer}
 use Rattle.handover_questions.specs.Questions.{record_answer}

@@ -2,12 +2,9 @@
 use Prim.Native.Nat.{ℕ, zero, suc, ◌+◌, ◌*◌, ◌≤◌, ◌<◌}
 use mathlib.Core.Path.{◌≡◌, refl, sym, ap, ◌∙◌, subst}
 use mathlib.Core.Logic.{◌⊎◌, inl, inr, ⊎_elim}
-use mathlib.Core.Bool.{Bool, true, ◌&&◌}
 use mathlib.Core.List.{List, [], ◌∷◌, ◌++◌}
 use native.Mathlib.Omega.{arith}
 use lib.ListN.{length, get_or, replicate, take, length-replicate}
-use lib.Dec.{ltb}
-use borrow.Author.Tests.{ltb-true}
 use Rattle.words.specs.Words.{number_at}
 use Rattle.byte_layout.specs.Fields.{cells, filled}
 use Rattle.byte_layout.specs.Stored.{Bytes, bytes_at, text_at, over}
@@ -15,7 +12,6 @@ use Rattle.lent_buffers.specs.Room.{room_of}
 use Rattle.refusals.specs.Refusals.{COUNT, END}
 use Rattle.refusals.specs.Answers.{refusal, refused}
 use Rattle.refusals.specs.declared.Answer.TheVariants.{Done}
-use Rattle.refusals.proofs.Chains.{both_hold}
 use Rattle.handover_format.specs.Payloads.{handover_end, Payload, no_entry, entry_in}
 use Rattle.handover_format.specs.declared.records.Record.{Record}
 use Rattle.handover_format.specs.PayloadLayouts.{record_fields, entries_fields, Silent}
