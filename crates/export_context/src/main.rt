@@ -15,7 +15,8 @@ fn refused(rt: &impl Eprint, refusal: Refusal) -> io::Result<()> {
 
 // Writes the payload, which is made in `out`: one that is made is not longer.
 fn export(rt: &(impl Print + Eprint), input: &[u8], load: u64, out: &mut [u8]) -> io::Result<()> {
-    match handover_export::export(input, load, out) {
+    let answer = handover_export::export(input, load, out);
+    match answer {
         Answer::Refused(refusal) => refused(rt, refusal),
         Answer::Done(size) => rt.write_all(&out[..size as usize]),
     }

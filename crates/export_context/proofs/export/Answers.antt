@@ -1,0 +1,9 @@
+-- `export` is safe: a payload that was made lies within the output.
+use Rattle.std.proofs.Common.{◌≡◌, ◌≤◌, ◌∙◌, ap, arith, length, sym}
+use Rattle.handover_export.proofs.ExportLaws.{exported_within}
+use Rattle.export_context.proofs.export.Goals as goal
+
+pub slice_bounds-write_all-end : goal.slice_bounds-write_all-end
+slice_bounds-write_all-end g c =
+    let e = c.export-answer in
+    omega (arith, exported_within c.args.input.now c.args.load c.args.out.now c.in-Done.size (sym (ap (λ p. p.0) e.ensures) ∙ c.in-Done.is), e.auto.out)
