@@ -22,7 +22,7 @@ use Rattle.ultra_format.specs.Additions.{Addition, body_given, formed}
 use Rattle.refusals.specs.declared.Answer.{Answer}
 use Rattle.refusals.specs.declared.Answer.TheVariants.{Refused}
 use Rattle.refusals.proofs.Chains.{both_hold}
-use Rattle.ultra_format.proofs.Decoded.{starts, decoded_only}
+use Rattle.ultra_format.proofs.Decoded.{decoded_only}
 use Rattle.ultra_format.specs.declared.records.ModuleRecord.{ModuleRecord}
 use Rattle.ultra_stepping.specs.Checks.{head_check, bounds_check}
 use Rattle.ultra_reading.specs.Reading.{used_length, version_of, with_version, reading_of}

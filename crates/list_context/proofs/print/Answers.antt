@@ -1,5 +1,5 @@
 -- `print` is safe: a listing that was made lies within the output.
-use Rattle.std.proofs.Common.{◌≡◌, ◌≤◌, ◌∙◌, ap, arith, length, sym}
+use Rattle.std.proofs.Common.{◌∙◌, ap, arith, sym}
 use Rattle.std.proofs.lemmas.List.{length-take-le}
 use Rattle.refusals.specs.declared.Answer.{Answer}
 use Rattle.ultra_listing.proofs.Written.{listed_within}

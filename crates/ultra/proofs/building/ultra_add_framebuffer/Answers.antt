@@ -1,7 +1,6 @@
 -- `ultra::building::ultra_add_framebuffer` meets its contract: the answer of the call below, crossed.
 use Rattle.ultra_format.specs.Additions.{body_given}
 use Rattle.ultra_crossing.proofs.Crossings.{crossing}
-use borrow.Author.Rules.{rules}
 use Rattle.ultra.proofs.building.ultra_add_framebuffer.Goals as goal
 
 pub returns : goal.returns

@@ -1,6 +1,5 @@
 -- `ultra::building::ultra_add_module` meets its contract: the answer of the call below, crossed.
 use Rattle.ultra_crossing.proofs.Crossings.{crossing}
-use borrow.Author.Rules.{rules}
 use Rattle.ultra.proofs.building.ultra_add_module.Goals as goal
 
 pub returns : goal.returns

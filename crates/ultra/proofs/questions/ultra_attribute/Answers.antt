@@ -1,7 +1,6 @@
 -- `ultra::questions::ultra_attribute` meets its contract: the answer of the call below, crossed.
 use mathlib.Core.Path.{ap, ◌∙◌}
 use Rattle.ultra_crossing.specs.Crossing.{answer_crossed}
-use borrow.Author.Rules.{rules}
 use Rattle.ultra.proofs.questions.ultra_attribute.Goals as goal
 
 pub returns : goal.returns

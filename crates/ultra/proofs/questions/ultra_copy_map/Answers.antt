@@ -1,6 +1,5 @@
 -- `ultra::questions::ultra_copy_map` meets its contract: the answer of the call below, crossed.
 use Rattle.ultra_crossing.proofs.Crossings.{crossing}
-use borrow.Author.Rules.{rules}
 use Rattle.ultra.proofs.questions.ultra_copy_map.Goals as goal
 
 pub returns : goal.returns
