@@ -1,6 +1,5 @@
 -- `probe_export` meets its contract: the answer of the call below, crossed.
 use Rattle.ultra_crossing.proofs.Crossings.{crossing}
-use borrow.Author.Rules.{rules}
 use Rattle.stack_probe.proofs.probe_export.Goals as goal
 
 pub returns : goal.returns
