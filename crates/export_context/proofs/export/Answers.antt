@@ -1,5 +1,6 @@
 -- `export` is safe: a payload that was made lies within the output.
 use Rattle.std.proofs.Common.{◌≡◌, ◌≤◌, ◌∙◌, ap, arith, length, sym}
+use Rattle.std.proofs.lemmas.List.{length-take-le}
 use Rattle.handover_export.proofs.ExportLaws.{exported_within}
 use Rattle.export_context.proofs.export.Goals as goal
 
@@ -7,3 +8,6 @@ pub slice_bounds-write_all-end : goal.slice_bounds-write_all-end
 slice_bounds-write_all-end g c =
     let e = c.export-answer in
     omega (arith, exported_within c.args.input.now c.args.load c.args.out.now c.in-Done.size (sym (ap (λ p. p.0) e.ensures) ∙ c.in-Done.is), e.auto.out)
+
+pub slice_bounds-write_all-end-in-Done : goal.slice_bounds-write_all-end-in-Done
+slice_bounds-write_all-end-in-Done g c = sym (length-take-le _ _ (slice_bounds-write_all-end g c))
