@@ -1,5 +1,5 @@
 -- `export` is safe: a payload that was made lies within the output.
-use Rattle.std.proofs.Common.{◌≡◌, ◌≤◌, ◌∙◌, ap, arith, length, sym}
+use Rattle.std.proofs.Common.{◌∙◌, ap, arith, sym}
 use Rattle.std.proofs.lemmas.List.{length-take-le}
 use Rattle.handover_export.proofs.ExportLaws.{exported_within}
 use Rattle.export_context.proofs.export.Goals as goal
