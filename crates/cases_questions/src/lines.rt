@@ -98,7 +98,13 @@ fn with_boards(rt: &impl Print, label: &[u8], buf: &[u8; 1024]) -> io::Result<()
     line_or(rt, label, b", board has an empty text", buf, b"")?;
     line_or(rt, label, b", board has zero bytes", buf, b"\0a\0")?;
     line_or(rt, label, b", board has no ASCII", buf, b"\x80\xff")?;
-    line_or(rt, label, b", board has the line and its zero", buf, b"ro\0")
+    line_or(
+        rt,
+        label,
+        b", board has the line and its zero",
+        buf,
+        b"ro\0",
+    )
 }
 
 // A line, an empty one, none, and one in a refused buffer.
