@@ -13,7 +13,7 @@ def read(path):
 def paths_below(root):
     """The path of each file, from the root; what is hidden or built is left out."""
     for folder, folders, files in os.walk(root):
-        folders[:] = sorted(name for name in folders if name != "target" and not name.startswith((".", "__")))
+        folders[:] = sorted(name for name in folders if name not in ("target", "out") and not name.startswith((".", "__")))
         for name in sorted(files):
             yield os.path.relpath(os.path.join(folder, name), root)
 
