@@ -6,24 +6,24 @@ use std::io;
 use std::io::{Read, Write};
 
 // Reads the next frame to the front of `frame`, if there is memory for it, and answers where it ends; 0 where the input ends before.
-fn next<R: Read>(input: &mut R, frame: &mut [u8]) -> io::Result<usize> {
+fn next<R: Read>(input: &mut R, frame: &mut [u8]) -> usize {
     if frame.len() < HEAD {
-        return Ok(0);
+        return 0;
     }
-    let head = read_full(input, &mut frame[0..HEAD])?;
+    let head = read_full(input, &mut frame[0..HEAD]);
     if head < HEAD {
-        return Ok(0);
+        return 0;
     }
     let rest = words::load_u32(frame, REST) as usize;
     let end = HEAD + rest;
     if frame.len() < end {
-        return Ok(end);
+        return end;
     }
-    let read = read_full(input, &mut frame[HEAD..end])?;
+    let read = read_full(input, &mut frame[HEAD..end]);
     if read < rest {
-        return Ok(0);
+        return 0;
     }
-    Ok(end)
+    end
 }
 
 // Writes the answer that ends before `end`, so that a caller who waits for it has it, and answers whether there was memory for it.
@@ -85,7 +85,7 @@ fn serve<R: Read, W: Write>(
     let mut held = 0;
     let mut left: u64 = 18446744073709551615;
     while 0 < left {
-        let end = next(input, frame)?;
+        let end = next(input, frame);
         if end == 0 {
             return Ok(());
         }

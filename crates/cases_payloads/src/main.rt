@@ -46,6 +46,6 @@ fn cases(rt: &impl Print, table: &[u8]) -> io::Result<()> {
 
 fn main(rt: HostRuntime) -> io::Result<()> {
     let mut input = [0u8; 65536];
-    let read = full_reads::read_full(&mut rt.stdin(), &mut input)?;
+    let read = full_reads::read_full(&mut rt.stdin(), &mut input);
     cases(&rt, &input[..read])
 }

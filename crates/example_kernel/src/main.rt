@@ -53,6 +53,6 @@ fn take_over(rt: &impl Print, context: &[u8]) -> io::Result<()> {
 
 fn main(rt: HostRuntime) -> io::Result<()> {
     let mut memory = [0u8; 65536];
-    let read = full_reads::read_full(&mut rt.stdin(), &mut memory)?;
+    let read = full_reads::read_full(&mut rt.stdin(), &mut memory);
     take_over(&rt, &memory[..read])
 }
