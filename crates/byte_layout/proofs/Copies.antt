@@ -66,6 +66,11 @@ text_short b o zero = omega arith
 text_short b o (suc k) = until_short (get_or b o 0) (text_at b (o + 1) k) k (text_short b (o + 1) k)
 
 -- ---- over what was there
+-- `fill` writes these
+pub zeros_padded : (k : ℕ) → padded k [] ≡ replicate k 0
+zeros_padded zero = refl
+zeros_padded (suc k) = ap (λ (m : List ℕ). 0 ∷ m) (zeros_padded k)
+
 -- a list over the front of zeros
 over_zeros : (k : ℕ) (l : List ℕ) → length l ≤ k → over l (replicate k 0) ≡ padded k l
 over_zeros zero [] h = refl

@@ -4,8 +4,16 @@ use mathlib.Core.Path.{◌≡◌, refl}
 use mathlib.Core.List.{List, [], ◌∷◌}
 use native.Mathlib.Omega.{arith}
 use native.Mathlib.Nat.{not-suc-le-zero}
-use lib.ListN.{length, get_or}
+use lib.Dec.{eqb}
+use lib.ListN.{length, take, drop, get_or}
+use Rattle.std.specs.List.{position_or_len, position}
+use Rattle.std.specs.Option.{unwrap_or}
+use Rattle.std.proofs.Common.{Option}
+use Rattle.std.proofs.lemmas.Grind.{common_steps}
+use Rattle.std.proofs.lemmas.List.{drop_more}
+use Rattle.std.proofs.lemmas.Bool.Decides.{nat_tests}
 use Rattle.byte_layout.specs.Stored.{up_to_zero, text_at}
+use Rattle.byte_layout.proofs.Copies.{text_short}
 
 pub stops : (x : ℕ) (l : List ℕ) → x ≡ 0 → up_to_zero x l ≡ []
 stops zero l e = refl
@@ -42,9 +50,6 @@ module _ (b : List ℕ) (o k i : ℕ) where
       let r : k - i - 1 ≡ k - (i + 1) = omega arith in
       rw (text_next b (o + i) (k - i) (omega arith) n, q, r)
 
-  pub rest_end : k ≤ i → text_at b (o + i) (k - i) ≡ []
-  rest_end h = let q : k - i ≡ 0 = omega arith in rw q (text_empty b (o + i))
-
 -- where the text ends before its field does, there is a zero; and back
 pub text_zero : (b : List ℕ) (o k : ℕ) → length (text_at b o k) < k → get_or b (o + length (text_at b o k)) 0 ≡ 0
 unfolding text_at
@@ -66,3 +71,18 @@ zero_text b o (suc k) (suc j) h e =
     go : (x : ℕ) (l : List ℕ) → length l < k → length (up_to_zero x l) < suc k
     go zero l r = omega arith
     go (suc x) l r = omega arith
+
+-- ---- the text ends where a search finds the first zero
+until_zero : (x : ℕ) (l m : List ℕ) → length l ≡ position_or_len (λ y. eqb y 0) m → length (up_to_zero x l) ≡ position_or_len (λ y. eqb y 0) (x ∷ m)
+until_zero zero l m e = refl
+until_zero (suc x) l m e = grind (arith, nat_tests, e)
+
+before_zero : (b : List ℕ) (o k : ℕ) → o + k ≤ length b → length (text_at b o k) ≡ position_or_len (λ y. eqb y 0) (take k (drop o b))
+unfolding text_at
+before_zero b o zero h = refl
+before_zero b o (suc k) h =
+    rw (drop_more b o 0 (omega arith)) (until_zero (get_or b o 0) (text_at b (o + 1) k) (take k (drop (o + 1) b)) (before_zero b (o + 1) k (omega arith)))
+
+-- where it finds none, the text is all of the field
+pub text_found : (b : List ℕ) (o k : ℕ) (r : Option ℕ) → o + k ≤ length b → r ≡ position (λ y. eqb y 0) (take k (drop o b)) → (unwrap_or r k ≡ length (text_at b o k)) × (unwrap_or r k ≤ k)
+text_found b o k r h e = rw e (grind (arith, common_steps, before_zero b o k h, text_short b o k))

@@ -1,12 +1,11 @@
 -- A layout is written field by field: over the front of a list, each field is stored after those before it.
-use Prim.Native.Nat.{ℕ, zero, suc, ◌+◌, ◌≤◌, ◌<◌}
+use Prim.Native.Nat.{ℕ, zero, suc, ◌+◌, ◌≤◌}
 use mathlib.Core.Path.{◌≡◌, refl, sym, ap, ap₂, ◌∙◌}
 use mathlib.Core.List.{List, [], ◌∷◌, ◌++◌, append-nil}
 use native.Mathlib.Omega.{arith}
 use native.Mathlib.Nat.{add-zero}
-use native.Mathlib.Numerals.{add-one}
-use lib.ListN.{length, drop, get_or, set, length-append}
-use lib.Seq.{paste, paste-suc, take-append_seam, drop-append-add, drop-drop}
+use lib.ListN.{length, drop, length-append}
+use lib.Seq.{take-append_seam, drop-append-add, drop-drop}
 use Rattle.words.specs.Words.{little_endian, replaced}
 use Rattle.words.proofs.Widths.{replaced_twice}
 use Rattle.byte_layout.specs.Fields.{Cell, Field, bytes, silence, padded, text_cells, field_cells, field_width, cells, width, filled}
@@ -14,16 +13,6 @@ use Rattle.byte_layout.specs.Fields.{Field.number, Field.raw, Field.text, Field.
 use Rattle.byte_layout.specs.Stored.{over}
 use Rattle.byte_layout.proofs.Cells.{length_filled}
 use Rattle.byte_layout.proofs.FieldLaws.{length_cells, width_append, cells_append}
-
--- ---- a store, byte by byte
--- one more byte of `x` is stored from `o` on
-pub store_more : (b x q : List ℕ) (o i v : ℕ) → o + i < length b → i < length x → v ≡ get_or x i 0 → q ≡ paste b o x i → set q (o + i) v ≡ paste b o x (i + 1)
-store_more b x q o i v h l e w = rw (w, e, add-one i) (paste-suc b o x i 0 h l)
-
-pub zero_padded : (n i : ℕ) → get_or (padded n []) i 0 ≡ 0
-zero_padded zero i = refl
-zero_padded (suc n) zero = refl
-zero_padded (suc n) (suc i) = zero_padded n i
 
 -- ---- what a writer writes of a field
 abbrev pub field_written : Field → List ℕ

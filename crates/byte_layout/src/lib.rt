@@ -11,29 +11,23 @@ pub fn text_length(bytes: &[u8], at: usize, width: usize) -> usize
     requires { at + width ≤ length bytes.now }
     ensures { (result ≡ length (text_at bytes.now at width)) × (result ≤ width) }
 {
-    let mut n = 0;
-    while n < width {
-        if bytes[at + n] == 0 {
-            return n;
-        }
-        n += 1;
-    }
-    n
+    bytes[at..at + width]
+        .iter()
+        .position(|byte| *byte == 0)
+        .unwrap_or(width)
 }
 
 // Copies the `n` bytes from `at` on to the front of `out`; what is after them stays.
+#[tactic(auto, using(crate::proofs::Copies::bytes_taken))]
 pub fn copy(bytes: &[u8], at: usize, n: usize, out: &mut [u8])
     requires { (at + n ≤ length bytes.now) × (n ≤ length out.old) }
     ensures { out.new ≡ over (bytes_at bytes.now at n) out.old }
 {
-    let mut i = 0;
-    while i < n {
-        out[i] = bytes[at + i];
-        i += 1;
-    }
+    out[..n].copy_from_slice(&bytes[at..at + n]);
 }
 
 // Copies the text in a field as wide as `out`, from `at` on, to the front of `out`; what is after it stays.
+#[tactic(auto, using(crate::proofs::Copies::text_bytes))]
 pub fn copy_text(bytes: &[u8], at: usize, out: &mut [u8])
     requires { at + length out.old ≤ length bytes.now }
     ensures { out.new ≡ over (text_at bytes.now at (length out.old)) out.old }
@@ -47,11 +41,7 @@ pub fn store(bytes: &[u8], out: &mut [u8], at: usize)
     requires { at + length bytes.now ≤ length out.old }
     ensures { out.new ≡ replaced out.old at (length bytes.now) bytes.now }
 {
-    let mut i = 0;
-    while i < bytes.len() {
-        out[at + i] = bytes[i];
-        i += 1;
-    }
+    out[at..at + bytes.len()].copy_from_slice(bytes);
 }
 
 // Stores `n` zeros from `at` on.
@@ -59,11 +49,7 @@ pub fn clear(out: &mut [u8], at: usize, n: usize)
     requires { at + n ≤ length out.old }
     ensures { out.new ≡ replaced out.old at n (padded n []) }
 {
-    let mut i = 0;
-    while i < n {
-        out[at + i] = 0;
-        i += 1;
-    }
+    out[at..at + n].fill(0);
 }
 
 // Bytes in their field of `width` bytes from `at` on, with zeros after them.

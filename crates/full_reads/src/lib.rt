@@ -15,7 +15,8 @@ fn read_some<R: Read>(input: &mut R, buf: &mut [u8]) -> usize
     }
 }
 
-// Reads until `buf` is full or the input ends, and answers how many bytes are at its front.
+// Reads until `buf` is full or the input ends, and answers how many bytes are at its front. How far a turn comes is the read's to say, so this
+// is no `for`.
 pub fn read_full<R: Read>(input: &mut R, buf: &mut [u8]) -> usize
     ensures { result ≤ length buf.new }
 {

@@ -7,6 +7,7 @@ ghost use Rattle.key_value_text.specs.Lines.{Value, line, key_bytes, line_bytes}
 use text_output::{put, put_all};
 
 // The key and `=`.
+#[tactic(auto, using(text_output::proofs::Puts::byte_after))]
 fn put_key(out: &mut [u8], to: u32, key: &[u8]) -> u32
     ensures { (out.new, result) ≡ puts (out.old, to) (key_bytes key.now) }
 {
@@ -15,6 +16,7 @@ fn put_key(out: &mut [u8], to: u32, key: &[u8]) -> u32
 }
 
 // Numbers with a separator between them.
+#[tactic(auto, using(crate::proofs::LinePuts::line_put), unfolding(crate::specs::Lines::value_bytes))]
 pub fn numbers_line(out: &mut [u8], to: u32, key: &[u8], separator: u8, numbers: &[u64]) -> u32
     ensures { (out.new, result) ≡ puts (out.old, to) (line_bytes (line key.now (Value.numbers separator numbers.now))) }
 {
@@ -24,6 +26,7 @@ pub fn numbers_line(out: &mut [u8], to: u32, key: &[u8], separator: u8, numbers:
 }
 
 // The text in the `width` bytes from `start` on.
+#[tactic(auto, using(crate::proofs::LinePuts::line_put, byte_layout::proofs::Copies::text_bytes), unfolding(crate::specs::Lines::value_bytes))]
 pub fn text_line(
     out: &mut [u8],
     to: u32,
@@ -42,6 +45,7 @@ pub fn text_line(
 }
 
 // The `n` bytes from `start` on.
+#[tactic(auto, using(crate::proofs::LinePuts::line_put), unfolding(crate::specs::Lines::value_bytes))]
 pub fn hex_line(out: &mut [u8], to: u32, key: &[u8], bytes: &[u8], start: usize, n: usize) -> u32
     requires { start + n ≤ length bytes.now }
     ensures { (out.new, result) ≡ puts (out.old, to) (line_bytes (line key.now (Value.hex (bytes_at bytes.now start n)))) }
@@ -51,6 +55,7 @@ pub fn hex_line(out: &mut [u8], to: u32, key: &[u8], bytes: &[u8], start: usize,
     put(out, end, b'\n')
 }
 
+#[tactic(auto, using(crate::proofs::LinePuts::line_put, text_output::proofs::Puts::puts_one), unfolding(crate::specs::Lines::value_bytes))]
 pub fn absent_line(out: &mut [u8], to: u32, key: &[u8]) -> u32
     ensures { (out.new, result) ≡ puts (out.old, to) (line_bytes (line key.now Value.absent)) }
 {

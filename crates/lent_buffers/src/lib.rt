@@ -9,7 +9,7 @@ ghost use Rattle.lent_buffers.specs.LentParts.{PartOf, no_part};
 pub fn room(buf: &[u8]) -> usize
     ensures { result ≡ room_of buf.now }
 {
-    if buf.len() < 65536 { buf.len() } else { 65536 }
+    buf.len().min(65536)
 }
 
 // Where a part of the buffer starts, and how long it is.
@@ -30,6 +30,7 @@ pub fn no_part() -> Part
 }
 
 // The part as a slice of the lent buffer.
+#[tactic(auto, using(byte_layout::proofs::Copies::bytes_taken))]
 pub fn slice(buf: &[u8], part: Part) -> &[u8]
     requires { part.start + part.length ≤ length buf.now }
     ensures { PartOf result buf.entry part }

@@ -1,12 +1,13 @@
 -- Laws of chains of tests: what a chain that answers 0 says, link by link.
+use Rattle.std.specs.Prelude.{⊤, Result, Ok, Err}
+use Rattle.std.specs.Result.{IsErrAnd}
+use Rattle.std.proofs.lemmas.Result.{err_from_is_err_and}
 use Prim.Native.Nat.{ℕ, zero, suc}
-use mathlib.Core.Path.{◌≡◌, refl}
+use mathlib.Core.Path.{◌≡◌, refl, sym, ap, ◌∙◌}
 use mathlib.Core.Bool.{Bool, true, false, ◌&&◌}
 use native.Mathlib.Omega.{arith}
 use Rattle.refusals.specs.Refusals.{unless, first_of}
-use Rattle.refusals.specs.Answers.{refused, or_refused, and_then}
-use Rattle.refusals.specs.declared.Answer.{Answer}
-use Rattle.refusals.specs.declared.Answer.TheVariants.{Done, Refused}
+use Rattle.refusals.specs.Answers.{Answer, checked, number_in, refused, or_refused, and_then}
 
 pub passed : (t : Bool) (n rest : ℕ) → unless t (suc n) rest ≡ 0 → (t ≡ true) × (rest ≡ 0)
 passed true n rest e = (refl, e)
@@ -26,14 +27,34 @@ both_hold true t e = (refl, e)
 both_hold false t e = absurd (let z : ◌≡◌ {A = ℕ} 0 1 = cc in omega arith)
 
 -- ---- answers
+-- what a check that answers by its number says of the number
+pub broken : (k : ℕ) (n : ℕ) → checked k ≡ Err n → (k ≡ n) × (k ≡ 0 → ⊥)
+broken zero n e = absurd (let z : ◌≡◌ {A = ℕ} 0 1 = cc in omega arith)
+broken (suc k) n e = (cc, λ z. omega arith)
+
+pub unbroken : {u : ⊤} (k : ℕ) → checked k ≡ Ok u → k ≡ 0
+unbroken zero e = refl
+unbroken (suc k) e = absurd (let z : ◌≡◌ {A = ℕ} 0 1 = cc in omega arith)
+
+pub number_checked : (k : ℕ) → number_in (checked k) ≡ k
+number_checked zero = refl
+number_checked (suc k) = refl
+
+pub is_checked : {r : Result ⊤ ℕ} (k : ℕ) → r ≡ checked k → r ≡ checked (number_in r)
+is_checked k e = e ∙ ap checked (sym (ap number_in e ∙ number_checked k))
+
+-- what a `?` hands back of an error
+pub passed_on : {T E : Type 0} (r : Result T E) {e : E} → IsErrAnd r (λ x. x ≡ e) → r ≡ Err e
+passed_on r h = let x = err_from_is_err_and r h in x.1 ∙ ap Err x.2
+
 pub refuses : (n o : ℕ) (rest : Answer) → (n ≡ 0 → ⊥) → or_refused n o rest ≡ refused n o
 refuses zero o rest h = absurd (h refl)
 refuses (suc n) o rest h = refl
 
-pub not_refused : (n o : ℕ) (rest : Answer) (v : ℕ) → or_refused n o rest ≡ Done v → (n ≡ 0) × (rest ≡ Done v)
+pub not_refused : (n o : ℕ) (rest : Answer) (v : ℕ) → or_refused n o rest ≡ Ok v → (n ≡ 0) × (rest ≡ Ok v)
 not_refused zero o rest v e = (refl, e)
 not_refused (suc n) o rest v e = absurd (let z : ◌≡◌ {A = ℕ} 0 1 = cc in omega arith)
 
-pub both_done : (a rest : Answer) (v : ℕ) → and_then a rest ≡ Done v → ((w : ℕ) × (a ≡ Done w)) × (rest ≡ Done v)
-both_done (Done w) rest v e = ((w, refl), e)
-both_done (Refused r) rest v e = absurd (let z : ◌≡◌ {A = ℕ} 0 1 = cc in omega arith)
+pub both_done : (a rest : Answer) (v : ℕ) → and_then a rest ≡ Ok v → ((w : ℕ) × (a ≡ Ok w)) × (rest ≡ Ok v)
+both_done (Ok w) rest v e = ((w, refl), e)
+both_done (Err r) rest v e = absurd (let z : ◌≡◌ {A = ℕ} 0 1 = cc in omega arith)

@@ -1,10 +1,10 @@
-// The numbers that a call can give back, and the answers that carry them.
+// The numbers that a call can give back, and the refusal that carries one.
 #![tactic(auto)]
 
 ghost use Rattle.std.specs.Prelude.{◌≡◌};
 ghost use Rattle.refusals.specs.Answers.{refusal, refusal_at};
 
-// Document 01, "Numbers a call can give back".
+// Document 01, "Numbers a call can give back". Numbers and no enum: `Refusal::new` takes any number of 16 bits, and an enum would ask more.
 pub const SHORT: u16 = 1;
 
 pub const VERSION: u16 = 2;
@@ -73,11 +73,4 @@ impl Refusal {
     {
         Self::new(number, offset)
     }
-}
-
-// What most calls answer: done, with the value that the call names, or refused.
-#[derive(Clone, Copy)]
-pub enum Answer {
-    Done(u32),
-    Refused(Refusal),
 }

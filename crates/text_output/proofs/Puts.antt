@@ -1,24 +1,20 @@
 -- Laws of putting bytes one after the other.
-use Prim.Native.Nat.{ℕ, suc, ◌+◌, ◌-◌, ◌≤◌, ◌<◌}
-use mathlib.Core.Path.{◌≡◌, refl, sym, ap, ◌∙◌}
-use mathlib.Core.List.{List, [], ◌∷◌, ◌++◌, append_assoc}
+use Prim.Native.Nat.{ℕ, min, ◌+◌, ◌-◌, ◌≤◌, ◌<◌}
+use mathlib.Core.Path.{◌≡◌, refl, sym, ◌∙◌}
+use mathlib.Core.List.{List, [], ◌∷◌, ◌++◌, append_assoc, append-nil}
 use native.Mathlib.Omega.{arith}
-use native.Mathlib.Numerals.{add-one}
-use lib.ListN.{length, drop, get_or, set, drop_of_length-le}
-use lib.Seq.{drop-cons, set_out}
+use lib.ListN.{length, take, drop, get_or}
+use Rattle.std.proofs.lemmas.Bool.Decides.{nat_tests}
+use Rattle.std.proofs.lemmas.List.{take_more, take_all}
 use Rattle.byte_layout.specs.Stored.{bytes_at}
+use Rattle.byte_layout.proofs.Copies.{bytes_taken}
 use Rattle.text_output.specs.Output.{State, next, put, puts}
 use Rattle.text_output.specs.Spelling.{each, decimal, after, joined}
 
--- a byte past the end is counted, any other is put
-module _ (out : List ℕ) (to x r : ℕ) (e : r ≡ next to) where
-  pub put_past : length out ≤ to → (out, r) ≡ put (out, to) x
-  unfolding put
-  put_past h = rw (set_out out to x h, e)
-
-  pub put_within : (set out to x, r) ≡ put (out, to) x
-  unfolding put
-  put_within = rw e
+-- the place after one stays at the last that has 32 bits
+pub next_place : (n : ℕ) → n < 4294967296 → min (n + 1) 4294967295 ≡ next n
+unfolding next
+next_place n h = grind (arith, nat_tests)
 
 pub puts_none : (s : State) → puts s [] ≡ s
 unfolding puts
@@ -44,43 +40,32 @@ byte_after s t u l x e f = after_it s t u l (x ∷ []) e (f ∙ sym (puts_one t 
 pub byte_before : (s t u : State) (x : ℕ) (l : List ℕ) → t ≡ put s x → u ≡ puts t l → u ≡ puts s (x ∷ l)
 byte_before s t u x l e f = after_it s t u (x ∷ []) l (e ∙ sym (puts_one s x)) f
 
-pub two_bytes : (s t u : State) (x y : ℕ) → t ≡ put s x → u ≡ put t y → u ≡ puts s (x ∷ y ∷ [])
-two_bytes s t u x y e f = byte_before s t u x (y ∷ []) e (f ∙ sym (puts_one t y))
+-- ---- what two lists are spelled as
+pub each_append : {X : Type 0} (f : X → List ℕ) (l m : List X) → each f (l ++ m) ≡ each f l ++ each f m
+unfolding each
+each_append f [] m = refl
+each_append f (x ∷ l) m = rw (each_append f l m) (sym (append_assoc (f x) (each f l) (each f m)))
 
--- ---- loops: what is still to be put, from the state that has been reached
-module _ (f : ℕ → List ℕ) (s t : State) where
-  -- the next element of a list
-  pub list_next : (l : List ℕ) (i : ℕ) → i < length l → t ≡ puts s (f (get_or l i 0)) → puts t (each f (drop (i + 1) l)) ≡ puts s (each f (drop i l))
-  unfolding each
-  list_next l i h e =
-      rw (add-one i, drop-cons l i 0 h, puts_append s (f (get_or l i 0)) (each f (drop (suc i) l)), ← e)
+-- ---- loops: one element more, after the i that have been put
+pub put_more : (s t u : State) (l : List ℕ) (i : ℕ) → i < length l → t ≡ puts s (take i l) → u ≡ put t (get_or l i 0) → u ≡ puts s (take (i + 1) l)
+put_more s t u l i h e f = rw (take_more l i 0 h) (byte_after s t u (take i l) (get_or l i 0) e f)
 
-  -- the next of n bytes
-  pub bytes_next : (b : List ℕ) (o n i : ℕ) → i < n → t ≡ puts s (f (get_or b (o + i) 0))
-      → puts t (each f (bytes_at b (o + (i + 1)) (n - (i + 1)))) ≡ puts s (each f (bytes_at b (o + i) (n - i)))
-  unfolding each bytes_at
-  bytes_next b o n i h e =
-      let q : n - i ≡ suc (n - (i + 1)) = omega arith in
-      let r : o + i + 1 ≡ o + (i + 1) = omega arith in
-      rw (q, r, puts_append s (f (get_or b (o + i) 0)) (each f (bytes_at b (o + (i + 1)) (n - (i + 1)))), ← e)
-
--- nothing is left
-pub list_end : (f : ℕ → List ℕ) (s : State) (l : List ℕ) (i : ℕ) → length l ≤ i → puts s (each f (drop i l)) ≡ s
+pub each_none : (f : ℕ → List ℕ) (s : State) → s ≡ puts s (each f [])
 unfolding each puts
-list_end f s l i h = rw (drop_of_length-le l h)
+each_none f s = refl
 
-pub bytes_end : (f : ℕ → List ℕ) (s : State) (b : List ℕ) (o n i : ℕ) → n ≤ i → puts s (each f (bytes_at b (o + i) (n - i))) ≡ s
-unfolding each puts bytes_at
-bytes_end f s b o n i h = let q : n - i ≡ 0 = omega arith in rw q
+pub each_more : (f : ℕ → List ℕ) (s t u : State) (l : List ℕ) (i : ℕ) → i < length l → t ≡ puts s (each f (take i l)) → u ≡ puts t (f (get_or l i 0)) → u ≡ puts s (each f (take (i + 1) l))
+unfolding each
+each_more f s t u l i h e g =
+    let x = get_or l i 0 in
+    rw (take_more l i 0 h, each_append f (take i l) (x ∷ []), append-nil (f x)) (after_it s t u (each f (take i l)) (f x) e g)
 
--- the same of bytes as they are
-pub byte_next : (s t : State) (l : List ℕ) (i : ℕ) → i < length l → t ≡ put s (get_or l i 0) → puts t (drop (i + 1) l) ≡ puts s (drop i l)
-unfolding puts
-byte_next s t l i h e = rw (add-one i, drop-cons l i 0 h) (ap (λ (u : State). puts u (drop (suc i) l)) e)
-
-pub byte_end : (s : State) (l : List ℕ) (i : ℕ) → length l ≤ i → puts s (drop i l) ≡ s
-unfolding puts
-byte_end s l i h = rw (drop_of_length-le l h)
+-- after the last, all are put
+pub bytes_all : (f : ℕ → List ℕ) (s t : State) (b : List ℕ) (o n i : ℕ) → o + n ≤ length b → length (take (o + n - o) (drop o b)) ≤ i
+    → t ≡ puts s (each f (take i (take (o + n - o) (drop o b)))) → t ≡ puts s (each f (bytes_at b o n))
+bytes_all f s t b o n i h l e =
+    let k : o + n - o ≡ n = omega arith in
+    rw (take_all i (take (o + n - o) (drop o b)) l, k, bytes_taken b o n h) at e
 
 -- ---- numbers with a separator between them
 module _ (s : State) (c : ℕ) where
@@ -89,12 +74,5 @@ module _ (s : State) (c : ℕ) where
   joined_none [] h = refl
   joined_none (n ∷ ns) h = absurd (omega arith)
 
-  pub joined_first : (t : State) (ns : List ℕ) → (length ns ≡ 0 → ⊥) → t ≡ puts s (decimal (get_or ns 0 0)) → puts t (each (after c) (drop 1 ns)) ≡ puts s (joined c ns)
-  joined_first t [] h e = absurd (h refl)
-  joined_first t (n ∷ ns) h e = rw (puts_append s (decimal n) (each (after c) ns), ← e)
-
--- ---- what two lists are spelled as
-pub each_append : {X : Type 0} (f : X → List ℕ) (l m : List X) → each f (l ++ m) ≡ each f l ++ each f m
-unfolding each
-each_append f [] m = refl
-each_append f (x ∷ l) m = rw (each_append f l m) (sym (append_assoc (f x) (each f l) (each f m)))
+  pub joined_all : (t u : State) (l : List ℕ) (n : ℕ) (ns : List ℕ) (i : ℕ) → l ≡ n ∷ ns → length ns ≤ i → t ≡ puts s (decimal n) → u ≡ puts t (each (after c) (take i ns)) → u ≡ puts s (joined c l)
+  joined_all t u l n ns i q h e f = rw q (after_it s t u (decimal n) (each (after c) ns) e (rw (take_all i ns h) at f))

@@ -1,15 +1,9 @@
--- `spelling::escaped` meets its contract. The invariant: what is left, put from here on, leads to what all of it leads to.
-use Prim.Native.Nat.{◌+◌, ◌-◌, ◌≤◌}
+-- `spelling::escaped` meets its contract: after each turn, the bytes so far are put.
 use mathlib.Core.Path.{◌≡◌}
-use lib.ListN.{length}
-use Rattle.byte_layout.specs.Stored.{bytes_at}
-use Rattle.text_output.specs.Output.{puts}
+use lib.ListN.{take}
+use Rattle.text_output.specs.Output.{State, puts}
 use Rattle.text_output.specs.Spelling.{each, spelled}
 use Rattle.text_output.proofs.spelling.escaped.Given as goal
 
-abbrev pub invariant-loop-i : goal.invariant-loop-i
-invariant-loop-i l =
-    (l.i ≤ l.n) × (length l.out ≡ length l.initial.out) × (puts (l.out, l.at) (each spelled (bytes_at l.bytes (l.start + l.i) (l.n - l.i))) ≡ puts (l.initial.out, l.to) (each spelled (bytes_at l.bytes l.start l.n)))
-
-abbrev pub decreases-loop-i : goal.decreases-loop-i
-decreases-loop-i l = l.n - l.i
+abbrev pub invariant-loop-byte : goal.invariant-loop-byte
+invariant-loop-byte l = ◌≡◌ {A = State} (l.out, l.at) (puts (l.initial.out, l.to) (each spelled (take l.byte-index l.byte-items)))
