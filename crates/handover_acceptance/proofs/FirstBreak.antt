@@ -1,4 +1,5 @@
 -- Going over the records: the first index at which a check is not 0.
+use Rattle.std.specs.Prelude.{Err}
 use Prim.Native.Nat.{ℕ, zero, suc, ◌+◌, ◌<◌}
 use mathlib.Core.Path.{◌≡◌, refl}
 use mathlib.Core.Logic.{◌⊎◌, inl, inr, ⊎_elim}
@@ -8,7 +9,6 @@ use native.Mathlib.Nat.{not-suc-le-zero}
 use lib.Dec.{eqb}
 use borrow.Author.Tests.{eqb-true, eqb-false}
 use Rattle.refusals.specs.Answers.{refusal_at}
-use Rattle.refusals.specs.declared.Answer.TheVariants.{Refused}
 use Rattle.refusals.proofs.Chains.{refuses}
 use Rattle.handover_format.specs.Payloads.{record_start}
 use Rattle.handover_reading.specs.PayloadReading.{each_of}
@@ -18,11 +18,11 @@ pub record FirstBreak (f : ℕ → ℕ) (v n : ℕ) : Type 0 where
   pub below : i < n
   pub before : (j : ℕ) → j < i → f j ≡ 0
   pub here : f i ≡ 0 → ⊥
-  pub is : each_of f v 0 n ≡ Refused (refusal_at (f i) i (record_start i))
+  pub is : each_of f v 0 n ≡ Err (refusal_at (f i) i (record_start i))
 
 module _ (f : ℕ → ℕ) (v : ℕ) where
   -- the answer from i on, where f is first not 0 at i + k
-  each_from : (i k n : ℕ) → k < n → ((j : ℕ) → j < k → f (i + j) ≡ 0) → (f (i + k) ≡ 0 → ⊥) → each_of f v i n ≡ Refused (refusal_at (f (i + k)) (i + k) (record_start (i + k)))
+  each_from : (i k n : ℕ) → k < n → ((j : ℕ) → j < k → f (i + j) ≡ 0) → (f (i + k) ≡ 0 → ⊥) → each_of f v i n ≡ Err (refusal_at (f (i + k)) (i + k) (record_start (i + k)))
   unfolding each_of
   each_from i k zero l h g = absurd (not-suc-le-zero l)
   each_from i zero (suc n) l h g = let q : i + 0 ≡ i = omega arith in rw q (refuses (f i) (record_start i) _ (λ z. g (rw q z)))
@@ -32,7 +32,7 @@ module _ (f : ℕ → ℕ) (v : ℕ) where
       let q : i + suc k ≡ suc i + k = omega arith in
       rw (z, q) (each_from (suc i) k n (omega arith) (λ j m. let r : suc i + j ≡ i + suc j = omega arith in rw r (h (suc j) (omega arith))) (λ e. g (rw q e)))
 
-  pub each_at : (n i : ℕ) → i < n → ((j : ℕ) → j < i → f j ≡ 0) → (f i ≡ 0 → ⊥) → each_of f v 0 n ≡ Refused (refusal_at (f i) i (record_start i))
+  pub each_at : (n i : ℕ) → i < n → ((j : ℕ) → j < i → f j ≡ 0) → (f i ≡ 0 → ⊥) → each_of f v 0 n ≡ Err (refusal_at (f i) i (record_start i))
   each_at n i l h g =
       let q : 0 + i ≡ i = omega arith in
       rw q at (each_from 0 i n l (λ j m. let r : 0 + j ≡ j = omega arith in rw r (h j m)) (λ e. g (rw q at e)))

@@ -1,4 +1,5 @@
 -- Reading accepts exactly the payloads that are held, with their size.
+use Rattle.std.specs.Prelude.{Ok, Err}
 use Prim.Native.Nat.{ℕ, ◌+◌, ◌-◌, ◌≤◌, ◌<◌}
 use mathlib.Core.Path.{◌≡◌, refl, sym, ap, ap₂, ◌∙◌, subst}
 use mathlib.Core.Logic.{◌↔◌, ◌⊎◌, inl, inr}
@@ -13,10 +14,8 @@ use Rattle.lent_buffers.specs.Room.{room_of}
 use Rattle.handover_format.specs.PayloadRules.{StringMeets, Meets}
 use Rattle.handover_format.specs.PayloadDecoding.{stored_agent, stored_count, stored_table, stored_record, stored_entry, payload_of}
 use Rattle.handover_format.specs.declared.records.Record.{Record}
-use Rattle.refusals.specs.Answers.{number_of, value_of}
+use Rattle.refusals.specs.Answers.{Answer, number_of, value_of}
 use Rattle.refusals.specs.declared.Refusal.{Refusal}
-use Rattle.refusals.specs.declared.Answer.{Answer}
-use Rattle.refusals.specs.declared.Answer.TheVariants.{Done, Refused}
 use Rattle.handover_format.proofs.PayloadRows.{Says, opens_says, says_fits, says_opens}
 use Rattle.handover_format.proofs.PayloadDecoded.{count_decoded, entry_decoded, table_decoded, length_decoded, says_decoded}
 use Rattle.handover_reading.specs.PayloadReading.{closes, words_check, record_check, strings_check, named_check, reading_of}
@@ -73,7 +72,7 @@ module _ (b : List ℕ) (n : ℕ) (y : Bytes b) (a : Accepted b n) where
       }
 
 -- an accepted buffer's payload meets the rules and opens it, with the used length that reading answers
-pub sound : (b : List ℕ) (n : ℕ) → Bytes b → reading_of b ≡ Done n → HoldsPayload b (payload_of b)
+pub sound : (b : List ℕ) (n : ℕ) → Bytes b → reading_of b ≡ Ok n → HoldsPayload b (payload_of b)
 sound b n y e =
     let a = accepted b n e in
     let m = decoded_meets b n y a in
@@ -106,18 +105,18 @@ module _ (b : List ℕ) (p : Payload) (m : Meets (room_of b) p) (s : Says b p) w
       }
 
 -- whatever meets the rules and opens a buffer is accepted, with its size
-pub complete : (b : List ℕ) (p : Payload) → HoldsPayload b p → reading_of b ≡ Done p.size
+pub complete : (b : List ℕ) (p : Payload) → HoldsPayload b p → reading_of b ≡ Ok p.size
 complete b p h = accepting b p.size (held_accepted b p h.0 (opens_says b p h.0 h.1))
 
 pub accepts_exactly : AcceptsExactly
 accepts_exactly b n y =
-    (λ e. (payload_of b, sound b n y e, ap value_of (sym e ∙ complete b (payload_of b) (sound b n y e))), λ h. complete b h.0 h.1 ∙ ap Done (sym h.2))
+    (λ e. (payload_of b, sound b n y e, ap value_of (sym e ∙ complete b (payload_of b) (sound b n y e))), λ h. complete b h.0 h.1 ∙ ap Ok (sym h.2))
 
 pub every_reading : EveryReading
 every_reading b y = go (reading_of b) refl
   where
     go : (a : Answer) → reading_of b ≡ a
-        → ((p : Payload) × HoldsPayload b p × (reading_of b ≡ Done p.size))
-        ⊎ ((r : Refusal) × (reading_of b ≡ Refused r) × Refuses b (number_of (Refused r)) (value_of (Refused r)) × ((p : Payload) → HoldsPayload b p → ⊥))
-    go (Done n) e = let h = sound b n y e in inl (payload_of b, h, complete b (payload_of b) h)
-    go (Refused r) e = inr (r, e, (refuses_exactly b r).0 e, λ p h. absurd (let z : Done p.size ≡ Refused r = sym (complete b p h) ∙ e in let w : ◌≡◌ {A = ℕ} 0 1 = cc in omega arith))
+        → ((p : Payload) × HoldsPayload b p × (reading_of b ≡ Ok p.size))
+        ⊎ ((r : Refusal) × (reading_of b ≡ Err r) × Refuses b (number_of (Err r)) (value_of (Err r)) × ((p : Payload) → HoldsPayload b p → ⊥))
+    go (Ok n) e = let h = sound b n y e in inl (payload_of b, h, complete b (payload_of b) h)
+    go (Err r) e = inr (r, e, (refuses_exactly b r).0 e, λ p h. absurd (let z : Ok p.size ≡ Err r = sym (complete b p h) ∙ e in let w : ◌≡◌ {A = ℕ} 0 1 = cc in omega arith))

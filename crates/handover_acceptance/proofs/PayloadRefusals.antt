@@ -1,4 +1,5 @@
 -- Reading gives each number exactly under its condition, with its offset.
+use Rattle.std.specs.Prelude.{Ok}
 use Prim.Native.Nat.{ℕ, ◌<◌}
 use mathlib.Core.Path.{◌≡◌, refl, sym, ap, ◌∙◌}
 use mathlib.Core.Logic.{⊎_elim}
@@ -11,7 +12,6 @@ use Rattle.refusals.specs.Order.{First, NoneBreaks}
 use Rattle.refusals.specs.Answers.{refused, number_of, value_of}
 use Rattle.handover_format.specs.Payloads.{record_start}
 use Rattle.handover_format.specs.PayloadDecoding.{stored_agent, stored_size, stored_count, stored_table}
-use Rattle.refusals.specs.declared.Answer.TheVariants.{Done}
 use Rattle.handover_reading.specs.PayloadReading.{head_check, record_check, closes, named_check, each_of, reading_of}
 use Rattle.handover_reading.proofs.EachLaws.{each_done}
 use Rattle.handover_reading.proofs.AnswerLaws.{body_refused, body_agent, body_strings, head_refuses, head_goes_on}
@@ -44,7 +44,7 @@ module _ (b : List ℕ) where
   row_clear : (i : ℕ) → NoneBreaks (RecordBreaks b i) → words i ≡ 0
   row_clear i h = said_none (RecordBreaks b i) record_order (words i) (record_chain b i) h
 
-  rows_done : ClearTo b (stored_count b) → each_of words (stored_size b) 0 (stored_count b) ≡ Done (stored_size b)
+  rows_done : ClearTo b (stored_count b) → each_of words (stored_size b) 0 (stored_count b) ≡ Ok (stored_size b)
   rows_done c = each_done words (stored_size b) 0 (stored_count b) (λ j h. rw zero-add (row_clear j (c.1 j h)))
 
   string_clear : (i : ℕ) → (StringBreaks b i → ⊥) → named i ≡ 0
@@ -76,8 +76,8 @@ module _ (b : List ℕ) where
         let y : p ≡ o = ap value_of q in
         rw (x, y) at r
 
-    not_done : reading_of b ≡ Done (stored_size b) → ⊥
-    not_done q = let z : Done (stored_size b) ≡ refused n o = sym q ∙ e in let w : ◌≡◌ {A = ℕ} 0 1 = cc in omega arith
+    not_done : reading_of b ≡ Ok (stored_size b) → ⊥
+    not_done q = let z : Ok (stored_size b) ≡ refused n o = sym q ∙ e in let w : ◌≡◌ {A = ℕ} 0 1 = cc in omega arith
 
     module _ (c : ClearTo b (stored_count b)) where
       no_string : closes b (stored_table b) (stored_length b) (stored_agent b) ≡ true → ((j : ℕ) → j < stored_count b → named j ≡ 0) → Refuses b n o

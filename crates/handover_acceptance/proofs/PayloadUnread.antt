@@ -16,8 +16,7 @@ use Rattle.byte_layout.proofs.FieldLaws.{length_cells, length_field}
 use Rattle.byte_layout.proofs.SameFields.{number_alike, same_along, same_text}
 use Rattle.lent_buffers.specs.Room.{room_of}
 use Rattle.refusals.specs.Refusals.{unless, SHORT, COUNT, MAGIC, PAYLOAD, STRING}
-use Rattle.refusals.specs.Answers.{or_refused, or_refused_at, and_then}
-use Rattle.refusals.specs.declared.Answer.{Answer}
+use Rattle.refusals.specs.Answers.{Answer, or_refused, or_refused_at, and_then}
 use Rattle.handover_format.specs.Payloads.{Payload, names_name, names_meta, count, record_start, table, table_length, Named, Named.agent, Named.name, Named.meta, Entry}
 use Rattle.handover_format.specs.PayloadLayouts.{magic, front_fields, string_fields, RowOf.front, RowOf.string, Silent}
 use Rattle.handover_format.specs.PayloadDecoding.{stored_agent, stored_size, stored_count, stored_table, stored_record, stored_entry, string_at, payload_of}

@@ -2,14 +2,13 @@
 -- itself, whatever else the buffer breaks; which of several is given is said after them. Of a buffer nothing is assumed. Proved in
 -- proofs/PayloadRefusals.antt.
 -- A reader has to believe this file.
-use Rattle.std.specs.Prelude.{ℕ, ◌+◌, ◌-◌, ◌<◌, ◌≡◌, ◌↔◌, ◌⊎◌, true, List, [], ◌∷◌, get_or}
+use Rattle.std.specs.Prelude.{ℕ, ◌+◌, ◌-◌, ◌<◌, ◌≡◌, ◌↔◌, ◌⊎◌, true, List, [], ◌∷◌, get_or, Err}
 use Rattle.words.specs.Words.{u32_at}
 use Rattle.lent_buffers.specs.Room.{room_of}
 use Rattle.refusals.specs.Refusals.{SHORT, COUNT, RANGE, MAGIC, PAYLOAD, STRING, END}
 use Rattle.refusals.specs.Answers.{number_of, value_of}
 use Rattle.refusals.specs.Order.{First, NoneBreaks}
 use Rattle.refusals.specs.declared.Refusal.{Refusal}
-use Rattle.refusals.specs.declared.Answer.TheVariants.{Refused}
 use Rattle.handover_format.specs.Payloads.{handover_end, names_name, names_meta, record_start}
 use Rattle.handover_format.specs.PayloadLayouts.{magic}
 use Rattle.handover_format.specs.PayloadDecoding.{stored_agent, stored_size, stored_count, stored_table, stored_record}
@@ -66,4 +65,4 @@ pub data Refuses (b : List ℕ) : ℕ → ℕ → Type 0 where
 
 -- ---- the statement, over whole refusals: with one more member in a refusal, which the conditions left open, it would be false
 abbrev pub RefusesExactly : Type 0
-RefusesExactly = (b : List ℕ) (r : Refusal) → (reading_of b ≡ Refused r) ↔ Refuses b (number_of (Refused r)) (value_of (Refused r))
+RefusesExactly = (b : List ℕ) (r : Refusal) → (reading_of b ≡ Err r) ↔ Refuses b (number_of (Err r)) (value_of (Err r))

@@ -2,9 +2,8 @@
 -- too, and both sides of each limit.
 -- Proved in proofs/Witness.antt: `witnessed`.
 -- A reader has to believe this file.
-use Rattle.std.specs.Prelude.{ℕ, ◌≡◌, List, [], ◌∷◌, ◌++◌, replicate, set}
+use Rattle.std.specs.Prelude.{ℕ, ◌≡◌, List, [], ◌∷◌, ◌++◌, replicate, set, Ok}
 use Rattle.refusals.specs.Answers.{refused}
-use Rattle.refusals.specs.declared.Answer.TheVariants.{Done}
 use Rattle.handover_reading.specs.PayloadReading.{reading_of}
 
 -- magic, agent, size, and a count of two bytes
@@ -44,7 +43,7 @@ pub record Witnessed : Type 0 where
   -- a zero past the size closes nothing
   pub unclosed : reading_of (head 0 49 1 0 ++ row 255 1 ++ (97 ∷ 0 ∷ [])) ≡ refused 22 0
   pub string : reading_of (head 0 113 3 0 ++ row 0 1 ++ file ++ row 255 1 ++ (0 ∷ [])) ≡ refused 22 48
-  pub least : reading_of (head 0 49 1 0 ++ row 255 1 ++ (0 ∷ [])) ≡ Done 49
+  pub least : reading_of (head 0 49 1 0 ++ row 255 1 ++ (0 ∷ [])) ≡ Ok 49
   -- by `UnreadBytes`: byte 16 where the size is 16, and whatever follows 65,536 bytes
   pub unread_byte : (x : ℕ) → reading_of (set (head 0 16 1 0 ++ (5 ∷ [])) 16 x) ≡ refused 21 0
   pub unread_rest : (rest : List ℕ) → reading_of (replicate 65536 0 ++ rest) ≡ reading_of (replicate 65536 0)

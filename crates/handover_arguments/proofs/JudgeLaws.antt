@@ -1,45 +1,26 @@
--- Laws of the tests on what is given: each answer from the facts that lead to it, and what 0 says.
-use Prim.Native.Nat.{ℕ, ◌+◌, ◌≤◌, ◌<◌}
-use mathlib.Core.Path.{◌≡◌, ap, ◌∙◌}
-use mathlib.Core.Bool.{Bool, true, false}
+-- Laws of the tests on what is given: what each says of a string, and what 0 says of the whole.
+use Prim.Native.Nat.{ℕ, ◌+◌, ◌≤◌}
+use mathlib.Core.Path.{◌≡◌}
+use mathlib.Core.Bool.{Bool, true}
 use mathlib.Core.List.{List}
 use lib.ListN.{length}
-use lib.Dec.{leb, eqb}
-use borrow.Author.Tests.{leb-true, le-leb, lt-leb, eqb-true}
+use lib.Dec.{leb}
+use borrow.Author.Tests.{leb-true, eqb-true}
 use Rattle.byte_layout.specs.Stored.{text_at}
-use Rattle.refusals.specs.Refusals.{COUNT, RANGE, ROOM, STRING, END}
 use Rattle.refusals.proofs.Chains.{passed, both_hold}
-use Rattle.handover_format.specs.Payloads.{names_name, names_meta, record_start}
+use Rattle.handover_format.specs.Payloads.{names_name, names_meta}
 use Rattle.handover_format.specs.RecordTests.{if_named}
 use Rattle.handover_format.specs.WrittenForm.{payload_size}
 use Rattle.handover_arguments.specs.PayloadGiven.{count_given, record_given, agent_part, name_part, meta_part, start_given, length_given, agent_given, entries_given}
 use Rattle.handover_arguments.specs.Judging.{every, end_good, range_good, run_has, string_good, strings_good, write_check}
-use Rattle.handover_arguments.specs.Measures.{strings_start}
-use Rattle.handover_arguments.proofs.MeasureLaws.{size_given_law}
 
 -- ---- one string
 module _ (run : List ℕ) (s n : ℕ) where
-  pub past_run : length run < s + n → false ≡ run_has run s n
-  unfolding run_has
-  past_run h = rw (lt-leb (s + n) (length run) h)
-
-  pub in_run : s + n ≤ length run → (k : ℕ) → k ≡ length (text_at run s n) → eqb k n ≡ run_has run s n
-  unfolding run_has
-  in_run h k e = rw (le-leb (s + n) (length run) h, e)
-
   run_said : run_has run s n ≡ true → (s + n ≤ length run) × (length (text_at run s n) ≡ n)
   unfolding run_has
   run_said h = let p = both_hold (leb (s + n) (length run)) _ h in (leb-true _ _ p.0, eqb-true _ _ p.1)
 
 module _ (ps run : List ℕ) (k : ℕ) where
-  pub not_lent : length ps < k + 2 → false ≡ string_good ps run k
-  unfolding string_good
-  not_lent h = rw (lt-leb (k + 2) (length ps) h)
-
-  pub lent : k + 2 ≤ length ps → run_has run (start_given ps k) (length_given ps k) ≡ string_good ps run k
-  unfolding string_good
-  lent h = rw (le-leb (k + 2) (length ps) h)
-
   pub string_said : string_good ps run k ≡ true
       → (start_given ps k + length_given ps k ≤ length run) × (length (text_at run (start_given ps k) (length_given ps k)) ≡ length_given ps k)
   unfolding string_good
@@ -57,19 +38,6 @@ module _ (rs ps run : List ℕ) (i : ℕ) where
 
   abbrev meta_good : Bool
   meta_good = if_named (names_meta (record_given rs i).tag) (string_good ps run (meta_part i))
-
-  -- what a call answers of one of them, told by the tag that was read whether it is named
-  pub slot_said : (names : ℕ → Bool) (k tag : ℕ) (t r : Bool) → tag ≡ (record_given rs i).tag → t ≡ names tag
-      → r ≡ if_named t (string_good ps run k) → r ≡ if_named (names (record_given rs i).tag) (string_good ps run k)
-  slot_said names k tag t r e f g = g ∙ ap (λ (x : Bool). if_named x (string_good ps run k)) (f ∙ ap names e)
-
-  pub name_stops : name_good ≡ false → false ≡ strings_good rs ps run i
-  unfolding strings_good
-  name_stops e = rw e
-
-  pub meta_says : name_good ≡ true → meta_good ≡ strings_good rs ps run i
-  unfolding strings_good
-  meta_says e = rw e
 
   pub strings_said : strings_good rs ps run i ≡ true → (name_good ≡ true) × (meta_good ≡ true)
   unfolding strings_good
@@ -104,45 +72,3 @@ module _ (rs ps run : List ℕ) (room : ℕ) where
       let p6 = passed (every (strings_good rs ps run) count) _ _ p5.1 in
       let p7 = passed (leb size room) _ _ p6.1 in
       record { some = leb-true _ _ p1.0; most = leb-true _ _ p2.0; ends = p3.0; ranges = p4.0; agent = p5.0; strings = p6.0; within = leb-true _ _ p7.0 }
-
-  pub stop_none : count < 1 → COUNT ≡ write_check rs ps run room
-  unfolding write_check
-  stop_none h = rw (lt-leb 1 count h)
-
-  module _ (a : 1 ≤ count) where
-    pub stop_many : 1024 < count → COUNT ≡ write_check rs ps run room
-    unfolding write_check
-    stop_many h = rw (le-leb 1 count a, lt-leb count 1024 h)
-
-    module _ (b : count ≤ 1024) where
-      pub stop_end : every (end_good rs count) count ≡ false → END ≡ write_check rs ps run room
-      unfolding write_check
-      stop_end h = rw (le-leb 1 count a, le-leb count 1024 b, h)
-
-      module _ (c : every (end_good rs count) count ≡ true) where
-        pub stop_range : every (range_good rs) count ≡ false → RANGE ≡ write_check rs ps run room
-        unfolding write_check
-        stop_range h = rw (le-leb 1 count a, le-leb count 1024 b, c, h)
-
-        module _ (d : every (range_good rs) count ≡ true) where
-          pub stop_agent : string_good ps run agent_part ≡ false → STRING ≡ write_check rs ps run room
-          unfolding write_check
-          stop_agent h = rw (le-leb 1 count a, le-leb count 1024 b, c, d, h)
-
-          module _ (f : string_good ps run agent_part ≡ true) where
-            pub stop_string : every (strings_good rs ps run) count ≡ false → STRING ≡ write_check rs ps run room
-            unfolding write_check
-            stop_string h = rw (le-leb 1 count a, le-leb count 1024 b, c, d, f, h)
-
-            module _ (g : every (strings_good rs ps run) count ≡ true) where
-              pub stop_room : room < record_start count + strings_start rs ps count → ROOM ≡ write_check rs ps run room
-              unfolding write_check
-              stop_room h =
-                  let w : leb size room ≡ false = rw (size_given_law rs ps run) (lt-leb _ room h) in
-                  rw (le-leb 1 count a, le-leb count 1024 b, c, d, f, g, w)
-
-              pub write_passes : record_start count + strings_start rs ps count ≤ room → 0 ≡ write_check rs ps run room
-              unfolding write_check
-              write_passes h =
-                  let w : leb size room ≡ true = rw (size_given_law rs ps run) (le-leb _ room h) in
-                  rw (le-leb 1 count a, le-leb count 1024 b, c, d, f, g, w)

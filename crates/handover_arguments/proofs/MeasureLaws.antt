@@ -1,7 +1,7 @@
--- The measures by numbers are the lengths of the strings given; and one step of the sum that is kept at no more than 65,537.
-use Prim.Native.Nat.{ℕ, zero, suc, ◌+◌, ◌-◌, ◌≤◌, ◌<◌, min}
+-- The measures by numbers are the lengths of the strings given.
+use Prim.Native.Nat.{ℕ, zero, suc, ◌+◌, ◌-◌, ◌≤◌, ◌<◌}
 use mathlib.Core.Path.{◌≡◌, refl, ap, ap₂, ◌∙◌}
-use mathlib.Core.Bool.{Bool, true, false}
+use mathlib.Core.Bool.{Bool}
 use mathlib.Core.List.{List, [], ◌∷◌}
 use native.Mathlib.Omega.{arith}
 use native.Mathlib.Nat.{add-zero}
@@ -18,14 +18,6 @@ use Rattle.handover_arguments.specs.Measures.{width_if, name_width, meta_width, 
 use Rattle.handover_arguments.proofs.GivenLaws.{entries_none, length_entries, entries_more}
 
 -- ---- one string
-pub unnamed_width : (t : Bool) (n : ℕ) → t ≡ false → width_if t n ≡ 0
-unfolding width_if
-unnamed_width t n e = rw e
-
-pub named_width : (t : Bool) (n : ℕ) → t ≡ true → width_if t n ≡ n + 1
-unfolding width_if
-named_width t n e = rw e
-
 pub width_closed : (t : Bool) (run : List ℕ) (s n : ℕ) → length (closed_if t (bytes_at run s n)) ≡ width_if t n
 unfolding width_if
 width_closed t run s n = length_closed_if t (bytes_at run s n) ∙ ap (λ (k : ℕ). pick t (k + 1) 0) (length_stored run s n)
@@ -52,15 +44,6 @@ module _ (rs ps : List ℕ) where
 
   pub agent_below : (n : ℕ) → length_given ps agent_part + 1 ≤ strings_start rs ps n
   agent_below n = omega (arith, start_first, starts_grow n 0 (omega arith))
-
--- ---- the sum in the code
-module _ (rs ps : List ℕ) where
-  pub total_first : (t : ℕ) → t ≡ min (length_given ps agent_part + 1) 65537 → t ≡ min (strings_start rs ps 0) 65537
-  total_first t e = omega (arith, start_first rs ps)
-
-  pub total_next : (i t u v : ℕ) → t ≡ min (strings_start rs ps i) 65537 → u ≡ min (t + name_width rs ps i) 65537
-      → v ≡ min (u + meta_width rs ps i) 65537 → v ≡ min (strings_start rs ps (i + 1)) 65537
-  total_next i t u v e f g = omega (arith, start_next rs ps i)
 
 -- ---- by numbers and by lists
 module _ (rs ps run : List ℕ) where

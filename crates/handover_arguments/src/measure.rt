@@ -8,20 +8,20 @@ ghost use Rattle.handover_arguments.specs.Measures.{width_if, strings_start};
 use crate::parts::length_at;
 
 // `total` with a string and its closing zero, where it is named.
+#[tactic(auto, unfolding(crate::specs::Measures::width_if))]
 fn with_string(total: u64, named: bool, size: u64) -> u64
     requires { total ≤ 65537 }
     ensures { result ≡ min (total + width_if named size) 65537 }
 {
-    if !named {
-        return total;
+    if named {
+        total.saturating_add(size).saturating_add(1).min(65537)
+    } else {
+        total
     }
-    if 65537 - total <= size {
-        return 65537;
-    }
-    total + size + 1
 }
 
 // How many bytes the agent's string takes: the records' strings start after it.
+#[tactic(auto, unfolding(crate::specs::Measures::width_if))]
 pub fn agent_width(parts: &[u64]) -> u64
     ensures { result ≡ min (length_given parts.now agent_part + 1) 65537 }
 {
@@ -40,7 +40,7 @@ pub fn with_name(total: u64, tag: u32, parts: &[u64], i: usize) -> u64
     )
 }
 
-// `total` with its meta.
+// `total` with its meta. One function for both would take the test and the place as parameters, and so be `with_string`.
 pub fn with_meta(total: u64, tag: u32, parts: &[u64], i: usize) -> u64
     requires { (total ≤ 65537) × (i ≤ 1024) }
     ensures { result ≡ min (total + width_if (names_meta tag) (length_given parts.now (meta_part i))) 65537 }
@@ -53,17 +53,16 @@ pub fn with_meta(total: u64, tag: u32, parts: &[u64], i: usize) -> u64
 }
 
 // How many bytes the strings take.
+#[tactic(auto, using(crate::proofs::MeasureLaws::start_first, crate::proofs::MeasureLaws::start_next))]
 fn table_length(records: &[u8], parts: &[u64], count: usize) -> u64
     requires { (32 * count ≤ length records.now) × (count ≤ 1024) }
     ensures { result ≡ min (strings_start records.now parts.now count) 65537 }
 {
     let mut total = agent_width(parts);
-    let mut i = 0;
-    while i < count {
+    for i in 0..count {
         let tag = words::load_u32(records, 32 * i);
         total = with_name(total, tag, parts, i);
         total = with_meta(total, tag, parts, i);
-        i += 1;
     }
     total
 }

@@ -6,10 +6,7 @@ ghost use Rattle.handover_arguments.specs.PayloadGiven.{start_given, length_give
 fn number(parts: &[u64], k: usize) -> u64
     ensures { result ≡ get_or parts.now k 0 }
 {
-    if parts.len() <= k {
-        return 0;
-    }
-    parts[k]
+    parts.get(k).copied().unwrap_or(0)
 }
 
 // Where the string whose numbers are at `k` starts.

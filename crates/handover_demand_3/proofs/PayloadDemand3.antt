@@ -1,5 +1,6 @@
 -- Demand 3 holds over Handover payloads. The one payload that a buffer can hold is the one that is decoded from it, and the calls answer by
 -- that one.
+use Rattle.std.specs.Prelude.{Ok, Err}
 use Prim.Native.Nat.{ℕ, zero, suc, ◌+◌, ◌-◌, ◌≤◌, ◌<◌}
 use mathlib.Core.Path.{◌≡◌, refl, sym, ap, ap₂, ◌∙◌, subst}
 use mathlib.Core.Bool.{Bool, true, false}
@@ -16,15 +17,13 @@ use Rattle.byte_layout.proofs.PlacedLaws.{placed_over}
 use Rattle.byte_layout.specs.Stored.{Bytes, bytes_at}
 use Rattle.byte_layout.proofs.Copies.{text_bytes}
 use Rattle.refusals.specs.Refusals.{COUNT, STRING, unless}
-use Rattle.refusals.specs.Answers.{refused, number_of, value_of, or_refused, and_then}
+use Rattle.refusals.specs.Answers.{Answer, refused, number_of, value_of, or_refused, and_then}
 use Rattle.handover_format.specs.Payloads.{names_name, names_meta, Entry, Payload, count, no_entry, entry_in, words_in, table, table_length, Named.agent, Named.name, Named.meta}
 use Rattle.lent_buffers.specs.Room.{room_of}
 use Rattle.handover_format.specs.PayloadLayouts.{string_fields, RowOf, RowOf.front, RowOf.string}
 use Rattle.handover_format.specs.PayloadRules.{StringMeets, Meets}
 use Rattle.handover_format.specs.PayloadDecoding.{pick, string_at, stored_agent, stored_size, stored_count, stored_table, payload_of}
 use Rattle.refusals.specs.declared.Refusal.{Refusal}
-use Rattle.refusals.specs.declared.Answer.{Answer}
-use Rattle.refusals.specs.declared.Answer.TheVariants.{Done, Refused}
 use Rattle.handover_format.proofs.PayloadRows.{width_front, Says, opens_says}
 use Rattle.handover_format.proofs.PayloadDecoded.{decoded_only}
 use Rattle.handover_reading.specs.PayloadReading.{head_check, closes, named_check, each_of, body_answer, reading_of}
@@ -165,21 +164,21 @@ still_held b d p h s = (
 
 -- ---- a refusal's number is not 0
 abbrev Numbered : Answer → Type 0
-Numbered a = (r : Refusal) → a ≡ Refused r → r.number ≡ 0 → ⊥
+Numbered a = (r : Refusal) → a ≡ Err r → r.number ≡ 0 → ⊥
 
-done_numbered : (v : ℕ) → Numbered (Done v)
+done_numbered : (v : ℕ) → Numbered (Ok v)
 done_numbered v r e z = let w : ◌≡◌ {A = ℕ} 0 1 = cc in omega arith
 
 or_numbered : (n o : ℕ) (rest : Answer) → Numbered rest → Numbered (or_refused n o rest)
 or_numbered zero o rest h r e z = h r e z
 or_numbered (suc n) o rest h r e z = let q : r.number ≡ suc n = number_of_law n o r e in omega arith
   where
-    number_of_law : (n o : ℕ) (r : Refusal) → refused (suc n) o ≡ Refused r → r.number ≡ suc n
+    number_of_law : (n o : ℕ) (r : Refusal) → refused (suc n) o ≡ Err r → r.number ≡ suc n
     number_of_law n o r e = cc
 
 then_numbered : (a rest : Answer) → Numbered a → Numbered rest → Numbered (and_then a rest)
-then_numbered (Done v) rest g h = h
-then_numbered (Refused r) rest g h = g
+then_numbered (Ok v) rest g h = h
+then_numbered (Err r) rest g h = g
 
 each_numbered : (f : ℕ → ℕ) (v i n : ℕ) → Numbered (each_of f v i n)
 unfolding each_of
@@ -194,8 +193,8 @@ reading_numbered b =
     (or_numbered (unless (closes b (stored_table b) (stored_size b - stored_table b) (stored_agent b)) STRING 0) 0 _ (each_numbered (named_check b (stored_table b) (stored_size b - stored_table b)) (stored_size b) 0 (stored_count b))))
 
 number_held : (b : List ℕ) → Bytes b → (a : Answer) → reading_of b ≡ a → number_of a ≡ 0 → (p : Payload) × HoldsPayload b p
-number_held b y (Done n) e z = (payload_of b, sound b n y e)
-number_held b y (Refused r) e z = absurd (reading_numbered b r e z)
+number_held b y (Ok n) e z = (payload_of b, sound b n y e)
+number_held b y (Err r) e z = absurd (reading_numbered b r e z)
 
 -- ---- the reading determines the list
 no_refusal : (s t n : ℕ) (e : Entry) → entry_answered s t e ≡ record_refused (refused COUNT n) → ⊥

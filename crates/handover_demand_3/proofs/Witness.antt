@@ -1,4 +1,5 @@
 -- The payload whose strings share bytes is held by its bytes, and the calls answer what was written out by hand.
+use Rattle.std.specs.Prelude.{Ok}
 use Prim.Native.Nat.{ℕ, zero, suc, ◌+◌, ◌-◌, ◌≤◌, ◌<◌}
 use mathlib.Core.Path.{◌≡◌, refl, sym, ap, ◌∙◌, subst}
 use mathlib.Core.Logic.{◌↔◌, ◌⊎◌, inl, inr, ⊎_elim}
@@ -13,7 +14,6 @@ use Rattle.words.specs.Words.{number_at}
 use Rattle.byte_layout.specs.Stored.{Bytes, bytes_at, text_at}
 use Rattle.lent_buffers.specs.Room.{room_of}
 use Rattle.lent_buffers.specs.LentParts.{PartOf}
-use Rattle.refusals.specs.declared.Answer.TheVariants.{Done}
 use Rattle.refusals.proofs.Chains.{both_hold}
 use Rattle.handover_format.specs.Payloads.{names_name, names_meta, entry_in, words_in, Named, Named.agent, Named.name, Named.meta}
 use Rattle.handover_format.specs.PayloadLayouts.{Silent}
@@ -47,7 +47,7 @@ unfolding all_bytes_law
 bytes = are_bytes shared_bytes refl
 
 -- ---- it is held
-read : reading_of shared_bytes ≡ Done 185
+read : reading_of shared_bytes ≡ Ok 185
 unfolding reading_of head_check body_answer each_of words_check strings_check closes if_named number_at text_at
 read = refl
 

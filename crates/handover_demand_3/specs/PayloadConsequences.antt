@@ -2,9 +2,8 @@
 -- how a buffer may change without another reading. They are proved from the statement alone, for every buffer and list: one that asked for more
 -- would not give them. Proved in proofs/PayloadConsequences.antt: `payload_consequences`.
 -- A reader has to believe this file.
-use Rattle.std.specs.Prelude.{ℕ, ◌+◌, ◌≤◌, ◌<◌, min, ◌≡◌, ◌⊎◌, List, ◌++◌, length, get_or, take, set}
+use Rattle.std.specs.Prelude.{ℕ, ◌+◌, ◌≤◌, ◌<◌, min, ◌≡◌, ◌⊎◌, List, ◌++◌, length, get_or, take, set, Ok}
 use Rattle.refusals.specs.Answers.{number_of}
-use Rattle.refusals.specs.declared.Answer.TheVariants.{Done}
 use Rattle.handover_format.specs.Payloads.{Payload, table, Named}
 use Rattle.handover_format.specs.PayloadLayouts.{Opens}
 use Rattle.handover_format.specs.PayloadRules.{Meets}
@@ -25,7 +24,7 @@ SaysNothing p i = (p.size ≤ i) ⊎ ((table p ≤ i) × ((o : ℕ) (l : List �
 
 pub record PayloadConsequences : Type 0 where
   -- of a buffer of bytes that reading accepts: there is one list, its size is the length that is answered, and the reading is that list
-  pub accepted : (b : List ℕ) (n : ℕ) → ((i : ℕ) → get_or b i 0 < 256) → reading_of b ≡ Done n
+  pub accepted : (b : List ℕ) (n : ℕ) → ((i : ℕ) → get_or b i 0 < 256) → reading_of b ≡ Ok n
       → (p : Payload) × HeldIn b p × (n ≡ p.size) × ReadingIs b p × ((q : Payload) → HeldIn b q → q ≡ p)
   -- of one that it refuses: there is none
   pub refused : (b : List ℕ) (p : Payload) → ((i : ℕ) → get_or b i 0 < 256) → (number_of (reading_of b) ≡ 0 → ⊥) → HeldIn b p → ⊥

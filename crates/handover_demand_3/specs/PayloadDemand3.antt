@@ -4,14 +4,13 @@
 -- the slices that `AgentHandedBack`, `NameHandedBack` and `MetaHandedBack` speak of (those of `handover_questions`). Proved in
 -- proofs/PayloadDemand3.antt: `payload_demand_3`. A buffer is any list of numbers; that they are bytes (`Bytes`) is asked where it is needed.
 -- A reader has to believe this file.
-use Rattle.std.specs.Prelude.{ℕ, ◌≤◌, ◌<◌, ◌≡◌, ◌↔◌, List, [], length, get_or}
+use Rattle.std.specs.Prelude.{ℕ, ◌≤◌, ◌<◌, ◌≡◌, ◌↔◌, List, [], length, get_or, Ok}
 use Rattle.std.specs.Borrow.{Bor}
 use Rattle.byte_layout.specs.Stored.{Bytes, bytes_at}
 use Rattle.lent_buffers.specs.declared.Part.{Part}
 use Rattle.lent_buffers.specs.LentParts.{PartOf, LiesAt}
 use Rattle.refusals.specs.Refusals.{COUNT}
 use Rattle.refusals.specs.Answers.{refused, number_of}
-use Rattle.refusals.specs.declared.Answer.TheVariants.{Done}
 use Rattle.handover_format.specs.Payloads.{Payload, count, entry_in}
 use Rattle.handover_format.specs.PayloadLayouts.{Silent}
 use Rattle.handover_reading.specs.PayloadReading.{reading_of}
@@ -34,7 +33,7 @@ IsPart lent s q l = PartOf lent s q × LiesAt lent s q.start × (lent.now ≡ l)
 -- the reading is a list: "Reading answers the used length; two questions .. answer the agent and the record at an index, with offsets and strings
 -- (3 with the used length from the count on)"
 pub record ReadingIs (b : List ℕ) (p : Payload) : Type 0 where
-  pub whole : reading_of b ≡ Done p.size
+  pub whole : reading_of b ≡ Ok p.size
   pub agent : agent_answer b ≡ agent_answered p
   pub each : (i : ℕ) → i < count p → record_answer b i ≡ record_answered p i
   pub past : (i : ℕ) → count p ≤ i → record_answer b i ≡ record_refused (refused COUNT p.size)
@@ -64,7 +63,7 @@ pub record PayloadDemand3 : Type 0 where
   pub accepts : (b : List ℕ) → Bytes b → (number_of (reading_of b) ≡ 0) ↔ ((p : Payload) × HoldsPayload b p)
   -- "Then there is no other such list and no other used length"
   pub one_list : (b : List ℕ) (p q : Payload) → HoldsPayload b p → HoldsPayload b q → p ≡ q
-  pub one_length : (b : List ℕ) (p : Payload) (n : ℕ) → HoldsPayload b p → reading_of b ≡ Done n → n ≡ p.size
+  pub one_length : (b : List ℕ) (p : Payload) (n : ℕ) → HoldsPayload b p → reading_of b ≡ Ok n → n ≡ p.size
   -- "and the reading is that list with that used length"
   pub reads : (b : List ℕ) (p : Payload) → HoldsPayload b p → ReadingIs b p
   -- "Bytes that document 01 calls silent never change it: a second buffer of at least the used length, equal to the first up to there apart

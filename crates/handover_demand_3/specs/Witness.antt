@@ -3,14 +3,12 @@
 -- differs from it in every silent byte and ends at its size. Each may be the second buffer of the other. Proved in proofs/Witness.antt:
 -- `witnessed`.
 -- A reader has to believe this file.
-use Rattle.std.specs.Prelude.{ℕ, ◌+◌, ◌≤◌, ◌<◌, ◌≡◌, ◌↔◌, ◌⊎◌, List, [], ◌∷◌, ◌++◌, get_or}
+use Rattle.std.specs.Prelude.{ℕ, ◌+◌, ◌≤◌, ◌<◌, ◌≡◌, ◌↔◌, ◌⊎◌, List, [], ◌∷◌, ◌++◌, get_or, Ok}
 use Rattle.std.specs.Borrow.{Bor}
 use Rattle.byte_layout.specs.Stored.{Bytes}
 use Rattle.lent_buffers.specs.declared.Part.{Part}
 use Rattle.lent_buffers.specs.LentParts.{part}
-use Rattle.refusals.specs.Answers.{refused}
-use Rattle.refusals.specs.declared.Answer.{Answer}
-use Rattle.refusals.specs.declared.Answer.TheVariants.{Done}
+use Rattle.refusals.specs.Answers.{Answer, refused}
 use Rattle.handover_format.specs.Payloads.{Payload}
 use Rattle.handover_format.specs.PayloadLayouts.{Silent}
 use Rattle.handover_format.specs.declared.records.Record.{Record}
@@ -81,7 +79,7 @@ shared =
 
 -- ---- the answers
 abbrev pub the_answer : Record → Part → Part → RecordAnswer
-the_answer r n m = record { answer = Done 185; words = r; name = n; meta = m }
+the_answer r n m = record { answer = Ok 185; words = r; name = n; meta = m }
 
 abbrev pub the_answers : List RecordAnswer
 the_answers =
@@ -99,8 +97,8 @@ lent_at o l = record { ref_ptr = (1, o); now = l }
 pub record Witnessed : Type 0 where
   pub bytes : Bytes shared_bytes
   pub holds : HoldsPayload shared_bytes shared
-  pub whole : reading_of shared_bytes ≡ Done 185
-  pub agent : agent_answer shared_bytes ≡ record { answer = Done 185; offset = 1; name = part 177 2 }
+  pub whole : reading_of shared_bytes ≡ Ok 185
+  pub agent : agent_answer shared_bytes ≡ record { answer = Ok 185; offset = 1; name = part 177 2 }
   pub each : (i : ℕ) → i < 5 → record_answer shared_bytes i ≡ get_or the_answers i (record_refused (refused 3 0))
   pub past : (i : ℕ) → 5 ≤ i → record_answer shared_bytes i ≡ record_refused (refused 3 185)
   -- what stands beside a refusal

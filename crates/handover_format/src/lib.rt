@@ -8,7 +8,7 @@ pub use records::{Record, end_suits, load, names_meta, names_name};
 // "magic 0xc001b001"
 pub const MAGIC: u32 = 3221336065;
 
-// The tags that a rule speaks of; every other passes.
+// The tags that a rule speaks of. Every other of the 32 bits passes, so these are numbers and no enum.
 pub const HANDOVER_END: u32 = 4294967295;
 
 pub const HANDOVER_FILE: u32 = 3418582331;

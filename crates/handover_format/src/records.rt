@@ -5,7 +5,7 @@ ghost use Rattle.handover_format.specs.PayloadDecoding.{record_at};
 ghost use Rattle.handover_format.specs.RecordTests.{end_suits};
 
 // The 32 bytes of a record by its words. What `name` and `meta` mean depends on the tag.
-#[derive(Clone, Copy)]
+#[derive(Clone, Copy, Default)]
 pub struct Record {
     pub tag: u32,
     pub flags: u32,
@@ -34,10 +34,7 @@ pub fn load(bytes: &[u8], at: usize) -> Record
 pub fn end_suits(last: bool, tag: u32) -> bool
     ensures { result ≡ end_suits last tag }
 {
-    if last {
-        return tag == crate::HANDOVER_END;
-    }
-    tag != crate::HANDOVER_END
+    (tag == crate::HANDOVER_END) == last
 }
 
 // Whether a record with this tag names a string by its word `name`.
@@ -51,8 +48,5 @@ pub fn names_name(tag: u32) -> bool
 pub fn names_meta(tag: u32) -> bool
     ensures { result ≡ names_meta tag }
 {
-    if tag == crate::HANDOVER_FILE {
-        return true;
-    }
-    tag == crate::HANDOVER_CMDLINE
+    names_name(tag) || tag == crate::HANDOVER_CMDLINE
 }

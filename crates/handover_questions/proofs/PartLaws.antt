@@ -1,4 +1,5 @@
 -- The parts that the questions answer lie within the buffer.
+use Rattle.std.specs.Prelude.{Ok, Err}
 use Prim.Native.Nat.{ℕ, ◌+◌, ◌≤◌}
 use mathlib.Core.Path.{◌≡◌, refl, sym, subst}
 use mathlib.Core.Bool.{Bool, true, false}
@@ -7,8 +8,7 @@ use native.Mathlib.Omega.{arith}
 use lib.ListN.{length}
 use Rattle.handover_format.specs.Payloads.{names_name, names_meta, Entry}
 use Rattle.handover_format.specs.PayloadDecoding.{pick, stored_agent, stored_size, stored_table, stored_record, stored_string, payload_of}
-use Rattle.refusals.specs.declared.Answer.{Answer}
-use Rattle.refusals.specs.declared.Answer.TheVariants.{Done, Refused}
+use Rattle.refusals.specs.Answers.{Answer}
 use Rattle.handover_format.proofs.PayloadDecoded.{table_decoded, entry_decoded}
 use Rattle.handover_format.specs.RecordTests.{if_named}
 use Rattle.handover_reading.specs.PayloadReading.{closes, reading_of}
@@ -33,8 +33,8 @@ module _ (b : List ℕ) (n : ℕ) (a : Accepted b n) where
 module _ (b : List ℕ) where
   agent_fits : (u : Answer) → reading_of b ≡ u → Within b (with_agent (payload_of b) u).name
   unfolding payload_of
-  agent_fits (Done n) e = let a = accepted b n e in rw (table_decoded b) (string_within b n a (stored_agent b) a.agent)
-  agent_fits (Refused r) e = omega arith
+  agent_fits (Ok n) e = let a = accepted b n e in rw (table_decoded b) (string_within b n a (stored_agent b) a.agent)
+  agent_fits (Err r) e = omega arith
 
   pub agent_within : Within b (agent_answer b).name
   unfolding agent_answer
@@ -42,13 +42,13 @@ module _ (b : List ℕ) where
 
   record_fits : (i : ℕ) (u : Answer) → index_answer b i ≡ u → Within b (with_record (payload_of b) i u).name × Within b (with_record (payload_of b) i u).meta
   unfolding payload_of
-  record_fits i (Done n) e =
+  record_fits i (Ok n) e =
       let f = found b i n e in
       let g = found_strings b i n e in
       let r = stored_record b i in
       rw (table_decoded b) (subst (λ (x : Entry). Within b (entry_answered (stored_size b) (stored_table b) x).name × Within b (entry_answered (stored_size b) (stored_table b) x).meta) (sym (entry_decoded b i f.below))
       (named_within b n f.accepts (names_name r.tag) r.name g.0, named_within b n f.accepts (names_meta r.tag) r.meta g.1))
-  record_fits i (Refused r) e = (omega arith, omega arith)
+  record_fits i (Err r) e = (omega arith, omega arith)
 
   pub record_within : (i : ℕ) → Within b (record_answer b i).name × Within b (record_answer b i).meta
   unfolding record_answer

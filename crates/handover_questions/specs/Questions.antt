@@ -1,15 +1,13 @@
 -- "two questions, which read first, answer the agent and the record at an index, with offsets and strings (3 with the used length from the
 -- count on)". The offsets are those of the list; a string is answered as its part of the buffer, without its closing zero.
 -- A reader has to believe this file.
-use Rattle.std.specs.Prelude.{ℕ, ◌+◌, List, length, ltb}
+use Rattle.std.specs.Prelude.{ℕ, ◌+◌, List, length, ltb, Ok, Err}
 use Rattle.std.specs.Borrow.{Bor}
 use Rattle.lent_buffers.specs.LentParts.{part, no_part, PartOf}
 use Rattle.refusals.specs.Refusals.{COUNT}
-use Rattle.refusals.specs.Answers.{refused, and_then}
+use Rattle.refusals.specs.Answers.{Answer, refused, and_then}
 use Rattle.handover_format.specs.Payloads.{names_name, names_meta, Entry, Payload, count, no_record, entry_in, table}
 use Rattle.handover_format.specs.PayloadDecoding.{pick, payload_of}
-use Rattle.refusals.specs.declared.Answer.{Answer}
-use Rattle.refusals.specs.declared.Answer.TheVariants.{Done, Refused}
 use Rattle.handover_reading.specs.PayloadReading.{reading_of}
 use Rattle.lent_buffers.specs.declared.Part.{Part}
 use Rattle.handover_questions.specs.declared.AgentAnswer.{AgentAnswer}
@@ -21,13 +19,13 @@ abbrev pub string_part : ℕ → ℕ → List ℕ → Part
 string_part t o l = part (t + o) (length l)
 
 abbrev pub agent_answered : Payload → AgentAnswer
-agent_answered p = record { answer = Done p.size; offset = p.agent; name = string_part (table p) p.agent p.agent_name }
+agent_answered p = record { answer = Ok p.size; offset = p.agent; name = string_part (table p) p.agent p.agent_name }
 
 -- an entry of a payload of s bytes whose table starts at t: every word of its record, and the parts of the strings that it names
 abbrev pub entry_answered : ℕ → ℕ → Entry → RecordAnswer
 entry_answered s t e =
     record {
-      answer = Done s;
+      answer = Ok s;
       words = e.words;
       name = pick (names_name e.words.tag) (string_part t e.words.name e.name) no_part;
       meta = pick (names_meta e.words.tag) (string_part t e.words.meta e.meta) no_part;
@@ -44,16 +42,16 @@ abbrev pub record_refused : Answer → RecordAnswer
 record_refused r = record { answer = r; words = no_record; name = no_part; meta = no_part }
 
 abbrev pub with_agent : Payload → Answer → AgentAnswer
-with_agent p (Done n) = agent_answered p
-with_agent p (Refused r) = agent_refused (Refused r)
+with_agent p (Ok n) = agent_answered p
+with_agent p (Err r) = agent_refused (Err r)
 
 abbrev pub with_record : Payload → ℕ → Answer → RecordAnswer
-with_record p i (Done n) = record_answered p i
-with_record p i (Refused r) = record_refused (Refused r)
+with_record p i (Ok n) = record_answered p i
+with_record p i (Err r) = record_refused (Err r)
 
 -- "3 with the used length from the count on"
 abbrev pub size_or_count : Payload → ℕ → Answer
-size_or_count p i = pick (ltb i (count p)) (Done p.size) (refused COUNT p.size)
+size_or_count p i = pick (ltb i (count p)) (Ok p.size) (refused COUNT p.size)
 
 -- ---- of a buffer: the calls' answers
 unfoldable pub agent_answer : List ℕ → AgentAnswer

@@ -10,12 +10,13 @@ ghost use Rattle.handover_questions.specs.Questions.{string_part, agent_refused,
 
 use handover_format::Record;
 use lent_buffers::Part;
-use refusals::{Answer, Refusal};
+use refusals::Refusal;
 
-// What the question about the agent answers: done, with the used length, or the refusal; then the offset and the string's part.
+// What the question about the agent answers: done, with the used length, or the refusal; then the offset and the string's part. They stand
+// beside the answer and not in it: `agent_alone` and `index_alone` (handover_demand_3) say what they are beside a refusal.
 #[derive(Clone, Copy)]
 pub struct AgentAnswer {
-    pub answer: Answer,
+    pub answer: Result<u32, Refusal>,
     pub offset: u32,
     pub name: Part,
 }
@@ -23,13 +24,14 @@ pub struct AgentAnswer {
 // What the question about a record answers: the same, with the record's words and the parts of the strings that it names.
 #[derive(Clone, Copy)]
 pub struct RecordAnswer {
-    pub answer: Answer,
+    pub answer: Result<u32, Refusal>,
     pub words: Record,
     pub name: Part,
     pub meta: Part,
 }
 
 // The part of the string at `offset` of the table, which is the `extent` bytes from `table` on.
+#[tactic(auto, unfolding(handover_reading::specs::PayloadReading::closes))]
 fn string_part(buf: &[u8], table: usize, extent: usize, offset: u32) -> Part
     requires extent_in_bounds { (table + extent ≤ length buf.now) × (table + extent ≤ 65536) }
     requires offset_value { closes buf.now table extent offset ≡ true }
@@ -44,19 +46,21 @@ fn string_part(buf: &[u8], table: usize, extent: usize, offset: u32) -> Part
 }
 
 // The same where it is named.
+#[tactic(auto, unfolding(handover_format::specs::RecordTests::if_named))]
 fn named_part(buf: &[u8], table: usize, extent: usize, named: bool, offset: u32) -> Part
     requires extent_in_bounds { (table + extent ≤ length buf.now) × (table + extent ≤ 65536) }
     requires offset_value { if_named named (closes buf.now table extent offset) ≡ true }
     ensures { result ≡ pick named (string_part table offset (string_at buf.now table extent offset)) no_part }
 {
     if named {
-        return string_part(buf, table, extent, offset);
+        string_part(buf, table, extent, offset)
+    } else {
+        lent_buffers::no_part()
     }
-    lent_buffers::no_part()
 }
 
 // Nothing but the refusal that is passed on.
-fn no_agent(answer: Answer) -> AgentAnswer
+fn no_agent(answer: Result<u32, Refusal>) -> AgentAnswer
     ensures { result ≡ agent_refused answer }
 {
     let name = lent_buffers::no_part();
@@ -72,48 +76,38 @@ pub fn agent(buf: &[u8]) -> AgentAnswer
     ensures { result ≡ agent_answer buf.now }
 {
     let answer = handover_reading::read(buf);
-    let Answer::Done(size) = answer else {
+    let Ok(size) = answer else {
         return no_agent(answer);
     };
     let offset = words::load_u32(buf, 4);
     let table = 16 + 32 * words::load_u32(buf, 12) as usize;
     let name = string_part(buf, table, size as usize - table, offset);
     AgentAnswer {
-        answer: Answer::Done(size),
+        answer: Ok(size),
         offset,
         name,
     }
 }
 
 // The used length where there is a record at `index`, or the refusal.
-fn indexed(buf: &[u8], index: u64) -> Answer
+fn indexed(buf: &[u8], index: u64) -> Result<u32, Refusal>
     ensures { result ≡ index_answer buf.now index }
 {
-    let answer = handover_reading::read(buf);
-    let Answer::Done(size) = answer else {
-        return answer;
-    };
+    let size = handover_reading::read(buf)?;
     if words::load_u32(buf, 12) as u64 <= index {
-        return Answer::Refused(Refusal::new(refusals::COUNT, size));
+        return Err(Refusal::new(refusals::COUNT, size));
     }
-    Answer::Done(size)
+    Ok(size)
 }
 
-fn no_answer(answer: Answer) -> RecordAnswer
+fn no_answer(answer: Result<u32, Refusal>) -> RecordAnswer
     ensures { result ≡ record_refused answer }
 {
     let name = lent_buffers::no_part();
     let meta = lent_buffers::no_part();
     RecordAnswer {
         answer,
-        words: Record {
-            tag: 0,
-            flags: 0,
-            start: 0,
-            size: 0,
-            name: 0,
-            meta: 0,
-        },
+        words: Record::default(),
         name,
         meta,
     }
@@ -124,7 +118,7 @@ pub fn record_at(buf: &[u8], index: u64) -> RecordAnswer
     ensures { result ≡ record_answer buf.now index }
 {
     let answer = indexed(buf, index);
-    let Answer::Done(size) = answer else {
+    let Ok(size) = answer else {
         return no_answer(answer);
     };
     let table = 16 + 32 * words::load_u32(buf, 12) as usize;
@@ -145,7 +139,7 @@ pub fn record_at(buf: &[u8], index: u64) -> RecordAnswer
         row.meta,
     );
     RecordAnswer {
-        answer: Answer::Done(size),
+        answer: Ok(size),
         words: row,
         name,
         meta,
@@ -153,6 +147,7 @@ pub fn record_at(buf: &[u8], index: u64) -> RecordAnswer
 }
 
 // The agent's string, as a slice of the lent buffer; an empty one where the payload is refused.
+#[tactic(auto, using(crate::proofs::PartLaws::agent_within))]
 pub fn agent_name(buf: &[u8]) -> &[u8]
     ensures { AgentHandedBack result buf.entry }
 {
@@ -161,6 +156,7 @@ pub fn agent_name(buf: &[u8]) -> &[u8]
 }
 
 // The string that the record at `index` names by its word `name`; an empty one where it names none or is refused.
+#[tactic(auto, using(crate::proofs::PartLaws::record_within))]
 pub fn record_name(buf: &[u8], index: u64) -> &[u8]
     ensures { NameHandedBack result buf.entry index }
 {
@@ -169,6 +165,7 @@ pub fn record_name(buf: &[u8], index: u64) -> &[u8]
 }
 
 // The same of its word `meta`.
+#[tactic(auto, using(crate::proofs::PartLaws::record_within))]
 pub fn record_meta(buf: &[u8], index: u64) -> &[u8]
     ensures { MetaHandedBack result buf.entry index }
 {

@@ -1,4 +1,5 @@
 -- What it means that reading answers a used length: every test passes.
+use Rattle.std.specs.Prelude.{Ok}
 use Prim.Native.Nat.{ℕ, ◌-◌, ◌<◌}
 use mathlib.Core.Path.{◌≡◌, sym, ap, ◌∙◌}
 use mathlib.Core.Bool.{true}
@@ -6,7 +7,6 @@ use mathlib.Core.List.{List}
 use native.Mathlib.Nat.{zero-add}
 use Rattle.refusals.specs.Refusals.{STRING, unless}
 use Rattle.handover_format.specs.PayloadDecoding.{stored_agent, stored_size, stored_count, stored_table}
-use Rattle.refusals.specs.declared.Answer.TheVariants.{Done}
 use Rattle.refusals.proofs.Chains.{passed, not_refused, both_done}
 use Rattle.handover_reading.specs.PayloadReading.{head_check, record_check, closes, named_check, each_of, body_answer, reading_of}
 use Rattle.handover_reading.proofs.HeadLaws.{HeadHolds, head_holds, head_passes}
@@ -24,7 +24,7 @@ pub record Accepted (b : List ℕ) (n : ℕ) : Type 0 where
   pub used : n ≡ stored_size b
 
 module _ (b : List ℕ) (n : ℕ) where
-  pub accepted : reading_of b ≡ Done n → Accepted b n
+  pub accepted : reading_of b ≡ Ok n → Accepted b n
   unfolding reading_of body_answer
   accepted e =
       let p = not_refused (head_check b) 0 _ n e in
@@ -40,10 +40,10 @@ module _ (b : List ℕ) (n : ℕ) where
         used = s.1;
       }
 
-  pub accepting : Accepted b n → reading_of b ≡ Done n
+  pub accepting : Accepted b n → reading_of b ≡ Ok n
   accepting a =
       let h = a.head in
       sym (head_goes_on b (sym (head_passes b h.room h.first h.some h.most h.least h.within)))
       ∙ sym (body_strings b (stored_count b) (stored_size b) _ (each_done (record_check b (stored_count b)) (stored_size b) 0 (stored_count b) (λ i l. rw zero-add (a.words i l))) a.agent)
       ∙ each_done (named_check b (stored_table b) (stored_length b)) (stored_size b) 0 (stored_count b) (λ i l. rw zero-add (a.strings i l))
-      ∙ ap Done (sym a.used)
+      ∙ ap Ok (sym a.used)

@@ -1,35 +1,37 @@
 -- Laws of going over the records, whatever is asked of each: the answer from record i of n on.
+use Rattle.std.specs.Prelude.{⊤, Ok, Err}
 use Prim.Native.Nat.{ℕ, zero, suc, ◌+◌, ◌-◌, ◌<◌}
-use mathlib.Core.Path.{◌≡◌, refl}
+use mathlib.Core.Path.{◌≡◌, refl, sym, ap, ◌∙◌}
 use native.Mathlib.Omega.{arith}
 use native.Mathlib.Numerals.{add-one}
 use native.Mathlib.Nat.{not-suc-le-zero}
-use Rattle.refusals.specs.Answers.{refusal_at}
+use Rattle.refusals.specs.Answers.{checked, refusal_at, refused}
 use Rattle.handover_format.specs.Payloads.{record_start}
-use Rattle.refusals.specs.declared.Answer.TheVariants.{Done, Refused}
-use Rattle.refusals.proofs.Chains.{refuses, not_refused}
+use Rattle.refusals.proofs.Chains.{broken, unbroken, refuses, not_refused}
 use Rattle.handover_reading.specs.PayloadReading.{each_of}
 
 module _ (f : ℕ → ℕ) (v : ℕ) where
   module _ (i n : ℕ) where
-    pub each_refuse : i < n → (f i ≡ 0 → ⊥) → each_of f v i (n - i) ≡ Refused (refusal_at (f i) i (record_start i))
+    pub each_refuse : (k : ℕ) → i < n → checked (f i) ≡ Err k → Err (refusal_at k i (record_start i)) ≡ each_of f v i (n - i)
     unfolding each_of
-    each_refuse l e =
+    each_refuse k l e =
         let q : n - i ≡ suc (n - (i + 1)) = omega arith in
-        rw q (refuses (f i) (record_start i) _ e)
+        let m = broken (f i) k e in
+        rw q (sym (refuses (f i) (record_start i) _ m.1 ∙ ap (λ (j : ℕ). refused j (record_start i)) m.0))
 
-    pub each_next : i < n → f i ≡ 0 → each_of f v i (n - i) ≡ each_of f v (i + 1) (n - (i + 1))
+    pub each_next : {u : ⊤} → i < n → checked (f i) ≡ Ok u → each_of f v (i + 1) (n - (i + 1)) ≡ each_of f v i (n - i)
     unfolding each_of
     each_next l e =
         let q : n - i ≡ suc (n - (i + 1)) = omega arith in
-        rw q (simp (e, add-one))
+        let z = unbroken (f i) e in
+        rw q (simp (z, add-one))
 
-    pub each_end : n ≡ i → each_of f v i (n - i) ≡ Done v
+    pub each_end : n ≡ i → Ok v ≡ each_of f v i (n - i)
     unfolding each_of
     each_end e = let q : n - i ≡ 0 = omega arith in rw q
 
   -- where the end is reached, no record has a break; and back
-  pub each_clear : (i n w : ℕ) → each_of f v i n ≡ Done w → ((j : ℕ) → j < n → f (i + j) ≡ 0) × (w ≡ v)
+  pub each_clear : (i n w : ℕ) → each_of f v i n ≡ Ok w → ((j : ℕ) → j < n → f (i + j) ≡ 0) × (w ≡ v)
   unfolding each_of
   each_clear i zero w e = (λ j h. absurd (not-suc-le-zero h), cc)
   each_clear i (suc n) w e =
@@ -41,7 +43,7 @@ module _ (f : ℕ → ℕ) (v : ℕ) where
       at z r zero h = let q : i + 0 ≡ i = omega arith in rw q z
       at z r (suc j) h = let q : i + suc j ≡ suc i + j = omega arith in rw q (r j (omega arith))
 
-  pub each_done : (i n : ℕ) → ((j : ℕ) → j < n → f (i + j) ≡ 0) → each_of f v i n ≡ Done v
+  pub each_done : (i n : ℕ) → ((j : ℕ) → j < n → f (i + j) ≡ 0) → each_of f v i n ≡ Ok v
   unfolding each_of
   each_done i zero h = refl
   each_done i (suc n) h =

@@ -2,13 +2,11 @@
 -- above 1,024; 21 if size is below 16 + 32 × count or above the room; then per record 23 for a misplaced or missing end, 15; last 22 for a
 -- string, agent first, then in record order. Offsets are the record's start, else 0."
 -- A reader has to believe this file.
-use Rattle.std.specs.Prelude.{ℕ, zero, suc, ◌+◌, ◌-◌, Bool, List, length, leb, ltb, eqb}
+use Rattle.std.specs.Prelude.{ℕ, zero, suc, ◌+◌, ◌-◌, Bool, List, length, leb, ltb, eqb, Ok}
 use Rattle.words.specs.Words.{u32_at}
 use Rattle.lent_buffers.specs.Room.{room_of}
 use Rattle.refusals.specs.Refusals.{unless, SHORT, COUNT, RANGE, MAGIC, PAYLOAD, STRING, END}
-use Rattle.refusals.specs.Answers.{or_refused, or_refused_at, and_then}
-use Rattle.refusals.specs.declared.Answer.{Answer}
-use Rattle.refusals.specs.declared.Answer.TheVariants.{Done}
+use Rattle.refusals.specs.Answers.{Answer, or_refused, or_refused_at, and_then}
 use Rattle.address_ranges.specs.Ranges.{range_fits}
 use Rattle.handover_format.specs.Payloads.{names_name, names_meta, record_start}
 use Rattle.handover_format.specs.PayloadLayouts.{magic}
@@ -54,7 +52,7 @@ named_check b t n i = strings_check b t n (stored_record b i)
 -- ---- all of them
 -- n records from record i on: the first number that is not 0, at its record's start, or `v`
 unfoldable pub each_of : (ℕ → ℕ) → ℕ → ℕ → ℕ → Answer
-each_of check v i zero = Done v
+each_of check v i zero = Ok v
 each_of check v i (suc n) = or_refused_at (check i) i (record_start i) (each_of check v (suc i) n)
 
 -- after the head, with n records and the size s

@@ -1,7 +1,7 @@
 -- Laws of filling: one string, one record's strings and one record more, of what is given.
 use Prim.Native.Nat.{ℕ, ◌+◌, ◌≤◌, ◌<◌}
 use mathlib.Core.Path.{◌≡◌, sym, ap, ◌∙◌}
-use mathlib.Core.Bool.{Bool, true, false}
+use mathlib.Core.Bool.{Bool, true}
 use mathlib.Core.List.{List, [], ◌∷◌, ◌++◌}
 use native.Mathlib.Omega.{arith}
 use lib.ListN.{length, length-append}
@@ -12,7 +12,7 @@ use Rattle.byte_layout.proofs.Copies.{length_stored}
 use Rattle.handover_format.specs.Payloads.{names_name, names_meta, record_start}
 use Rattle.handover_format.specs.PayloadLayouts.{record_fields}
 use Rattle.handover_format.specs.WrittenForm.{closed_if, strings_of, strings, words_at, rows_bytes}
-use Rattle.handover_format.proofs.WrittenLaws.{length_closed, closed_named, closed_unnamed, strings_none, strings_one, strings_append, rows_none, rows_one, rows_append, length_rows}
+use Rattle.handover_format.proofs.WrittenLaws.{length_closed, closed_named, strings_none, strings_one, strings_append, rows_none, rows_one, rows_append, length_rows}
 use Rattle.handover_arguments.specs.PayloadGiven.{record_given, name_part, meta_part, string_given, agent_given, entry_given, entries_from}
 use Rattle.handover_arguments.specs.Measures.{name_width, strings_start}
 use Rattle.handover_arguments.proofs.GivenLaws.{entries_none, length_entries, entries_more, strings_given}
@@ -21,19 +21,9 @@ use Rattle.handover_writing.specs.Stores.{put}
 use Rattle.handover_writing.proofs.StoreLaws.{put_none, stored, put_then}
 
 -- ---- one string
-pub no_string : (t : Bool) (e l : List ℕ) (a : ℕ) → t ≡ false → (a ≡ a + length (closed_if t l)) × (e ≡ put e a (closed_if t l))
-no_string t e l a h =
-    let z = closed_unnamed t l h in
-    (omega (arith, ap length z), put_none e a ∙ ap (put e a) (sym z))
-
 pub length_named : (t : Bool) (run : List ℕ) (s n : ℕ) → t ≡ true → length (closed_if t (bytes_at run s n)) ≡ n + 1
 length_named t run s n h =
     ap length (closed_named t (bytes_at run s n) h) ∙ length_closed (bytes_at run s n) ∙ ap (λ (k : ℕ). k + 1) (length_stored run s n)
-
-pub one_string : (t : Bool) (e q run : List ℕ) (a s n : ℕ) → t ≡ true → q ≡ replaced e a (n + 1) (closed (bytes_at run s n)) → q ≡ put e a (closed_if t (bytes_at run s n))
-one_string t e q run a s n h f =
-    let z = closed_named t (bytes_at run s n) h in
-    stored e q (closed (bytes_at run s n)) a (n + 1) (ap length (sym z) ∙ length_named t run s n h) f ∙ ap (put e a) (sym z)
 
 module _ (rs ps run : List ℕ) where
   -- ---- a record's strings, told whether they are named

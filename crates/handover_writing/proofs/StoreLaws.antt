@@ -1,7 +1,6 @@
--- Stores side by side, a string with its closing zero, and a record with its offsets set.
+-- Stores side by side, and a string with its closing zero.
 use Prim.Native.Nat.{ℕ, ◌+◌, ◌-◌, ◌≤◌, ◌<◌}
 use mathlib.Core.Path.{◌≡◌, sym, ap, ap₂, ◌∙◌}
-use mathlib.Core.Bool.{Bool}
 use mathlib.Core.List.{List, [], ◌∷◌, ◌++◌}
 use native.Mathlib.Omega.{arith}
 use lib.ListN.{length, take, drop, set, length-append}
@@ -11,10 +10,6 @@ use Rattle.words.proofs.Stores.{length_replaced, replaced_none}
 use Rattle.byte_layout.specs.Stored.{bytes_at, closed}
 use Rattle.byte_layout.proofs.Copies.{length_stored, bytes_taken}
 use Rattle.byte_layout.proofs.Runs.{grown}
-use Rattle.handover_format.specs.Payloads.{names_name, names_meta}
-use Rattle.handover_format.specs.PayloadDecoding.{pick}
-use Rattle.handover_format.specs.WrittenForm.{words_at}
-use Rattle.handover_format.specs.declared.records.Record.{Record}
 use Rattle.handover_writing.specs.Stores.{put}
 
 -- ---- stores
@@ -44,12 +39,3 @@ string_stored b run l q o s n h g e f =
     let w : q ≡ replaced b o n (bytes_at run s n) = f ∙ ap₂ (replaced b o) z t in
     let y : length q ≡ length b = ap length w ∙ length_replaced b (bytes_at run s n) o n (length_stored run s n) (omega arith) in
     grown b q (set q (o + n) 0) (bytes_at run s n) (0 ∷ []) o n 1 (length_stored run s n) (omega arith) w (byte_stored q (o + n) 0 (omega arith) (omega arith))
-
--- ---- a record with its offsets set
-pub placed_words : (r : Record) (o m x y : ℕ) (t u : Bool) → t ≡ names_name r.tag → u ≡ names_meta r.tag → x ≡ pick t o r.name → y ≡ pick u m r.meta
-    → ◌≡◌ {A = Record} (record { tag = r.tag; flags = r.flags; start = r.start; size = r.size; name = x; meta = y }) (words_at r o m)
-unfolding words_at
-placed_words r o m x y t u e f g h =
-    let n = g ∙ ap (λ (s : Bool). pick s o r.name) e in
-    let k = h ∙ ap (λ (s : Bool). pick s m r.meta) f in
-    λ j. record { tag = r.tag; flags = r.flags; start = r.start; size = r.size; name = n j; meta = k j }

@@ -1,4 +1,5 @@
 -- Laws of what writing leaves and answers: a refusal keeps the bytes; else head, records and table are stored one after the other.
+use Rattle.std.specs.Prelude.{Ok}
 use Prim.Native.Nat.{ℕ, zero, suc, ◌≤◌}
 use mathlib.Core.Path.{◌≡◌, refl, sym, ap, ◌∙◌}
 use mathlib.Core.List.{List, ◌++◌}
@@ -12,7 +13,6 @@ use Rattle.byte_layout.proofs.FieldLaws.{length_cells}
 use Rattle.byte_layout.proofs.Runs.{front_over}
 use Rattle.lent_buffers.specs.Room.{room_of}
 use Rattle.refusals.specs.Answers.{refused}
-use Rattle.refusals.specs.declared.Answer.TheVariants.{Done}
 use Rattle.handover_format.specs.Payloads.{Entry, record_start}
 use Rattle.handover_format.specs.WrittenForm.{strings, rows_bytes, payload_size, payload_bytes}
 use Rattle.handover_format.proofs.WrittenLaws.{length_rows, front_bytes}
@@ -36,12 +36,12 @@ module _ (b rs ps run : List ℕ) where
       or_kept n agent es b h ∙ ap (λ (k : ℕ). or_written k agent es b) e
 
   pub write_done : (q : List ℕ) (n size : ℕ) → n ≡ write_check rs ps run (room_of b) → n ≡ 0 → size ≡ payload_size (agent_given ps run) (entries_given rs ps run)
-      → q ≡ over (payload_bytes (agent_given ps run) (entries_given rs ps run)) b → (Done size, q) ≡ payload_written b rs ps run
+      → q ≡ over (payload_bytes (agent_given ps run) (entries_given rs ps run)) b → (Ok size, q) ≡ payload_written b rs ps run
   unfolding payload_written
   write_done q n size e z f g =
       let agent = agent_given ps run in
       let es = entries_given rs ps run in
-      (λ j. (Done (f j), g j)) ∙ ap (λ (k : ℕ). or_written k agent es b) (sym z ∙ e)
+      (λ j. (Ok (f j), g j)) ∙ ap (λ (k : ℕ). or_written k agent es b) (sym z ∙ e)
 
 -- ---- the parts, one after the other
 length_head : (size count : ℕ) → length (filled (cells (head_fields size count))) ≡ 16

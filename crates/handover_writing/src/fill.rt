@@ -30,20 +30,20 @@ fn row_at(out: &mut [u8], records: &[u8], parts: &[u64], i: usize, at: u64) -> u
 }
 
 // The records, each with its strings' offsets set. Of the strings only the lengths count, whatever the run has.
+#[tactic(auto, using(handover_arguments::proofs::MeasureLaws::start_next, crate::proofs::FillLaws::next_rows))]
 pub fn rows(out: &mut [u8], records: &[u8], parts: &[u64], count: usize)
     requires count_in_bounds { (32 * count ≤ length records.now) × (count ≤ 1024) × (record_start count ≤ length out.old) }
     requires count_bound { strings_start records.now parts.now count ≤ 65536 }
     ensures { (run : List ℕ) → out.new ≡ put out.old 16 (filled (cells (entries_fields (placed_from (length (closed (agent_given parts.now run))) (entries_from records.now parts.now run 0 count))))) }
 {
     let mut at = handover_arguments::agent_width(parts);
-    let mut i = 0;
-    while i < count {
+    for i in 0..count {
         at = row_at(out, records, parts, i, at);
-        i += 1;
     }
 }
 
 // The string whose numbers are at `k`, where it is named, from `at` on: answers where it ends.
+#[tactic(auto, using(handover_arguments::proofs::JudgeLaws::string_said, handover_format::proofs::WrittenLaws::length_closed, byte_layout::proofs::Copies::length_stored, crate::proofs::StoreLaws::put_none, crate::proofs::StoreLaws::stored), unfolding(handover_format::specs::RecordTests::if_named, handover_format::specs::WrittenForm::closed_if))]
 fn string_at(out: &mut [u8], parts: &[u64], run: &[u8], k: usize, named: bool, at: usize) -> usize
     requires k_value { (if_named named (string_good parts.now run.now k) ≡ true) × (k ≤ 65536) }
     requires k_in_bounds { at + length (closed_if named (string_given parts.now run.now k)) ≤ length out.old }
@@ -60,6 +60,7 @@ fn string_at(out: &mut [u8], parts: &[u64], run: &[u8], k: usize, named: bool, a
 }
 
 // The strings that record `i` names, from `at` on: answers where they end.
+#[tactic(auto, using(handover_arguments::proofs::JudgeLaws::strings_said, crate::proofs::FillLaws::both_length, crate::proofs::FillLaws::both_stored))]
 fn strings_at(
     out: &mut [u8],
     records: &[u8],
@@ -87,14 +88,13 @@ fn strings(out: &mut [u8], records: &[u8], parts: &[u64], run: &[u8], count: usi
     ensures { out.new ≡ put out.old first (strings (entries_from records.now parts.now run.now 0 count)) }
 {
     let mut at = first;
-    let mut i = 0;
-    while i < count {
+    for i in 0..count {
         at = strings_at(out, records, parts, run, i, at);
-        i += 1;
     }
 }
 
 // The string table: the agent's string, then those that the records name.
+#[tactic(auto, unfolding(handover_format::specs::RecordTests::if_named, handover_format::specs::WrittenForm::closed_if))]
 pub fn table(out: &mut [u8], records: &[u8], parts: &[u64], run: &[u8], count: usize)
     requires count_in_bounds { (32 * count ≤ length records.now) × (count ≤ 1024) × (every (strings_good records.now parts.now run.now) count ≡ true) }
     requires agent_part_value { (string_good parts.now run.now agent_part ≡ true) × (record_start count + length (closed (agent_given parts.now run.now) ++ strings (entries_from records.now parts.now run.now 0 count)) ≤ length out.old) }

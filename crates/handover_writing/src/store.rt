@@ -46,22 +46,17 @@ pub fn string(run: &[u8], start: usize, size: usize, out: &mut [u8], at: usize)
 fn choose(named: bool, a: u32, b: u32) -> u32
     ensures { result ≡ pick named a b }
 {
-    if named {
-        return a;
-    }
-    b
+    if named { a } else { b }
 }
 
 // The record with its strings' offsets set, where it names them.
+#[tactic(auto, unfolding(handover_format::specs::WrittenForm::words_at))]
 pub fn placed(given: Record, name: u32, meta: u32) -> Record
     ensures { result ≡ words_at given name meta }
 {
     Record {
-        tag: given.tag,
-        flags: given.flags,
-        start: given.start,
-        size: given.size,
         name: choose(handover_format::names_name(given.tag), name, given.name),
         meta: choose(handover_format::names_meta(given.tag), meta, given.meta),
+        ..given
     }
 }

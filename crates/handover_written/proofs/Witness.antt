@@ -1,4 +1,5 @@
 -- The example, by computing, and what the statements say of it.
+use Rattle.std.specs.Prelude.{Ok}
 use Prim.Native.Nat.{ℕ, zero, suc, ◌+◌, ◌*◌, ◌≤◌, ◌<◌}
 use mathlib.Core.Path.{◌≡◌, refl, sym, ap, ◌∙◌, subst}
 use mathlib.Core.Logic.{◌⊎◌, inl, inr, ⊎_elim}
@@ -11,7 +12,6 @@ use Rattle.byte_layout.specs.Stored.{Bytes, bytes_at, text_at, over}
 use Rattle.lent_buffers.specs.Room.{room_of}
 use Rattle.refusals.specs.Refusals.{COUNT, END}
 use Rattle.refusals.specs.Answers.{refusal, refused}
-use Rattle.refusals.specs.declared.Answer.TheVariants.{Done}
 use Rattle.handover_format.specs.Payloads.{handover_end, Payload, no_entry, entry_in}
 use Rattle.handover_format.specs.declared.records.Record.{Record}
 use Rattle.handover_format.specs.PayloadLayouts.{record_fields, entries_fields, Silent}
@@ -43,16 +43,16 @@ unfolding all_bytes_law
 abc_bytes = are_bytes abc refl
 
 -- ---- it is written
-whole_written : payload_written (out 158) ended parts abc ≡ (Done 155, left)
+whole_written : payload_written (out 158) ended parts abc ≡ (Ok 155, left)
 unfolding payload_written write_check every string_good run_has strings_good if_named entries_from number_at bytes_at text_at closed_if strings words_at placed_from entries_fields cells filled
 whole_written = refl
 
-exact_written : payload_written (out 155) ended parts abc ≡ (Done 155, written)
+exact_written : payload_written (out 155) ended parts abc ≡ (Ok 155, written)
 unfolding payload_written write_check every string_good run_has strings_good if_named entries_from number_at bytes_at text_at closed_if strings words_at placed_from entries_fields cells filled
 exact_written = refl
 
 -- ---- it reads back
-answer : (payload_written (out 158) ended parts abc).0 ≡ Done 155
+answer : (payload_written (out 158) ended parts abc).0 ≡ Ok 155
 answer = ap (λ x. x.0) whole_written
 
 left_is : (payload_written (out 158) ended parts abc).1 ≡ left
@@ -112,15 +112,15 @@ parts_are =
     ∷ (w j).name.start ∷ (w j).name.length ∷ (w j).meta.start ∷ (w j).meta.length
     ∷ []
 
-left_again : (e : List ℕ) → 155 ≤ room_of e → payload_written e (records_read left) (parts_read left) left ≡ (Done 155, over (take 155 left) e)
+left_again : (e : List ℕ) → 155 ≤ room_of e → payload_written e (records_read left) (parts_read left) left ≡ (Ok 155, over (take 155 left) e)
 left_again e h =
-    subst (λ (d : List ℕ). payload_written e (records_read d) (parts_read d) d ≡ (Done 155, over (take 155 d) e)) left_is
+    subst (λ (d : List ℕ). payload_written e (records_read d) (parts_read d) d ≡ (Ok 155, over (take 155 d) e)) left_is
     (writes_again (out 158) ended parts abc 155 ended_bytes abc_bytes answer e h)
 
-written_again : payload_written (out 156) records_written parts_written left ≡ (Done 155, written ++ (165 ∷ []))
+written_again : payload_written (out 156) records_written parts_written left ≡ (Ok 155, written ++ (165 ∷ []))
 written_again = (λ j. payload_written (out 156) (sym records_are j) (sym parts_are j) left) ∙ left_again (out 156) (omega arith)
 
-again_exact_law : payload_written (out 155) records_written parts_written left ≡ (Done 155, written)
+again_exact_law : payload_written (out 155) records_written parts_written left ≡ (Ok 155, written)
 again_exact_law = (λ j. payload_written (out 155) (sym records_are j) (sym parts_are j) left) ∙ left_again (out 155) (omega arith)
 
 -- ---- the widest bytes
@@ -141,7 +141,7 @@ wide_run_law : Bytes wide_run
 unfolding all_bytes_law
 wide_run_law = are_bytes wide_run refl
 
-wide_answer : (payload_written (out 84) wide_records wide_parts wide_run).0 ≡ Done 84
+wide_answer : (payload_written (out 84) wide_records wide_parts wide_run).0 ≡ Ok 84
 unfolding payload_written write_check every string_good run_has strings_good if_named entries_from number_at bytes_at text_at closed_if strings words_at placed_from entries_fields cells filled wide_records
 wide_answer = refl
 

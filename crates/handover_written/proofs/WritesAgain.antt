@@ -1,4 +1,5 @@
 -- A payload written again from its reading has the same bytes: records that are placed stay where they are placed again.
+use Rattle.std.specs.Prelude.{Ok}
 use Prim.Native.Nat.{ℕ, ◌+◌, ◌≤◌}
 use mathlib.Core.Path.{◌≡◌, refl, sym, ap, ap₂, ◌∙◌}
 use mathlib.Core.Bool.{Bool, true, false}
@@ -9,7 +10,6 @@ use lib.Seq.{take_at}
 use Rattle.byte_layout.specs.Fields.{cells, filled}
 use Rattle.byte_layout.specs.Stored.{Bytes, over, closed}
 use Rattle.lent_buffers.specs.Room.{room_of}
-use Rattle.refusals.specs.declared.Answer.TheVariants.{Done}
 use Rattle.handover_format.specs.declared.records.Record.{Record}
 use Rattle.handover_format.specs.Payloads.{names_name, names_meta, Entry, record_start}
 use Rattle.handover_format.specs.PayloadLayouts.{front_fields}
@@ -82,10 +82,10 @@ writes_reading d p h e f =
     let r = payload_demand_3.reads d p h in
     let a = agent_again d p h r in
     let b = entries_again d p h r in
-    written_whole e (records_read d) (parts_read d) d (none_again d p h r (room_of e) f) ∙ (λ j. (Done (payload_size (a j) (b j)), over (payload_bytes (a j) (b j)) e))
+    written_whole e (records_read d) (parts_read d) d (none_again d p h r (room_of e) f) ∙ (λ j. (Ok (payload_size (a j) (b j)), over (payload_bytes (a j) (b j)) e))
 
 -- ---- one that was written
-module _ (b rs ps run : List ℕ) (n : ℕ) (y : Bytes rs) (w : Bytes run) (a : (payload_written b rs ps run).0 ≡ Done n) where
+module _ (b rs ps run : List ℕ) (n : ℕ) (y : Bytes rs) (w : Bytes run) (a : (payload_written b rs ps run).0 ≡ Ok n) where
   abbrev who : List ℕ
   who = agent_given ps run
 
@@ -100,12 +100,12 @@ module _ (b rs ps run : List ℕ) (n : ℕ) (y : Bytes rs) (w : Bytes run) (a : 
       let x = payload_bytes who es in
       ap (take n) (left_over b rs ps run n y w a) ∙ take_at x (drop (length x) b) n (length_payload who es ∙ sym (size_answered b rs ps run n y w a))
 
-  same_again : (e : List ℕ) → n ≤ room_of e → payload_written e (records_read d) (parts_read d) d ≡ (Done n, over (take n d) e)
+  same_again : (e : List ℕ) → n ≤ room_of e → payload_written e (records_read d) (parts_read d) d ≡ (Ok n, over (take n d) e)
   same_again e f =
       let h = written_holds b rs ps run n y w a in
       let s : payload_size who (again who es) ≡ n = size_same who es ∙ sym (size_answered b rs ps run n y w a) in
       let x : payload_bytes who (again who es) ≡ take n d = bytes_same who es ∙ sym first_bytes in
-      writes_reading d (payload who es) h e (omega arith) ∙ (λ j. (Done (s j), over (x j) e))
+      writes_reading d (payload who es) h e (omega arith) ∙ (λ j. (Ok (s j), over (x j) e))
 
 pub writes_again : WritesAgain
 writes_again b rs ps run n y w a e f = same_again b rs ps run n y w a e f

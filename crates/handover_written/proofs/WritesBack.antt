@@ -1,4 +1,5 @@
 -- What is written is held, so it reads back as it was given.
+use Rattle.std.specs.Prelude.{Ok}
 use Prim.Native.Nat.{ℕ, ◌≤◌}
 use mathlib.Core.Path.{◌≡◌, refl, sym, ap, ◌∙◌, subst}
 use mathlib.Core.List.{List}
@@ -9,7 +10,6 @@ use Rattle.byte_layout.specs.Stored.{Bytes, over}
 use Rattle.byte_layout.proofs.Runs.{front_over}
 use Rattle.lent_buffers.specs.Room.{room_of}
 use Rattle.refusals.specs.Order.{NoneBreaks}
-use Rattle.refusals.specs.declared.Answer.TheVariants.{Done}
 use Rattle.handover_format.specs.Payloads.{Entry}
 use Rattle.handover_format.specs.WrittenForm.{payload_size, payload, payload_bytes}
 use Rattle.handover_acceptance.specs.PayloadAcceptance.{HoldsPayload}
@@ -26,7 +26,7 @@ use Rattle.handover_written.proofs.SoundGiven.{not_over, sound_given, agent_give
 pub past_over : (x b : List ℕ) (i : ℕ) → length x ≤ i → get_or (over x b) i 0 ≡ get_or b i 0
 past_over x b i h = ap (λ (l : List ℕ). get_or l i 0) (sym (front_over b x (length x) refl)) ∙ after_it b x 0 (length x) refl (omega arith) i (omega arith)
 
-module _ (b rs ps run : List ℕ) (n : ℕ) (y : Bytes rs) (w : Bytes run) (a : (payload_written b rs ps run).0 ≡ Done n) where
+module _ (b rs ps run : List ℕ) (n : ℕ) (y : Bytes rs) (w : Bytes run) (a : (payload_written b rs ps run).0 ≡ Ok n) where
   abbrev who : List ℕ
   who = agent_given ps run
 

@@ -1,4 +1,5 @@
 -- Each test of writing fails just under its condition, and so a refusal is the first in order whose condition is met.
+use Rattle.std.specs.Prelude.{Ok}
 use Prim.Native.Nat.{ℕ, zero, suc, ◌+◌, ◌<◌}
 use mathlib.Core.Path.{◌≡◌, refl, sym, ap, ◌∙◌}
 use mathlib.Core.Logic.{◌↔◌, ◌⊎◌, inl, inr, ⊎_elim}
@@ -15,7 +16,6 @@ use Rattle.byte_layout.proofs.Texts.{text_zero, zero_text}
 use Rattle.lent_buffers.specs.Room.{room_of}
 use Rattle.refusals.specs.Refusals.{COUNT, RANGE, ROOM, STRING, END}
 use Rattle.refusals.specs.Order.{NoneBreaks}
-use Rattle.refusals.specs.declared.Answer.TheVariants.{Done}
 use Rattle.refusals.proofs.Order.{clash, AllFine, Chain, ends, link, one_number, below, through, either_fails}
 use Rattle.handover_format.specs.Payloads.{handover_end, names_name, names_meta, Entry}
 use Rattle.handover_format.specs.RecordTests.{end_suits, if_named}
@@ -182,7 +182,7 @@ module _ (b rs ps run : List ℕ) where
   given_chain = chain rs ps run (room_of b)
 
   -- what success answers and leaves
-  pub written_whole : NoneBreaks Given → payload_written b rs ps run ≡ (Done (payload_size who es), over (payload_bytes who es) b)
+  pub written_whole : NoneBreaks Given → payload_written b rs ps run ≡ (Ok (payload_size who es), over (payload_bytes who es) b)
   unfolding payload_written
   written_whole h = none_written who es b writing_order Given v given_chain h
 

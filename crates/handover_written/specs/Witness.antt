@@ -2,10 +2,9 @@
 -- statements say of it; and for each refusal, something to write that is refused so although a later condition is met too. Proved in
 -- proofs/Witness.antt: `witnessed`.
 -- A reader has to believe this file.
-use Rattle.std.specs.Prelude.{ℕ, ◌*◌, ◌<◌, ◌≡◌, List, [], ◌∷◌, ◌++◌, get_or, replicate, take}
+use Rattle.std.specs.Prelude.{ℕ, ◌*◌, ◌<◌, ◌≡◌, List, [], ◌∷◌, ◌++◌, get_or, replicate, take, Ok}
 use Rattle.byte_layout.specs.Stored.{Bytes}
 use Rattle.refusals.specs.Answers.{refused}
-use Rattle.refusals.specs.declared.Answer.TheVariants.{Done}
 use Rattle.lent_buffers.specs.LentParts.{part, no_part}
 use Rattle.handover_format.specs.Payloads.{no_entry, entry_in}
 use Rattle.handover_format.specs.PayloadLayouts.{Silent}
@@ -92,23 +91,23 @@ pub record Witnessed : Type 0 where
   -- ---- it is written
   pub bytes : Bytes ended
   pub run_bytes : Bytes abc
-  pub whole : payload_written (out 158) ended parts abc ≡ (Done 155, left)
+  pub whole : payload_written (out 158) ended parts abc ≡ (Ok 155, left)
   -- room for just the payload
-  pub exact : payload_written (out 155) ended parts abc ≡ (Done 155, written)
+  pub exact : payload_written (out 155) ended parts abc ≡ (Ok 155, written)
   -- the least payload
-  pub least : payload_written (out 49) (last 255 1) (0 ∷ 0 ∷ []) [] ≡ (Done 49, least_written)
+  pub least : payload_written (out 49) (last 255 1) (0 ∷ 0 ∷ []) [] ≡ (Ok 49, least_written)
   -- ---- by `WritesBack` it reads back
-  pub reads : reading_of left ≡ Done 155
-  pub agent : agent_answer left ≡ record { answer = Done 155; offset = 0; name = part 144 2 }
+  pub reads : reading_of left ≡ Ok 155
+  pub agent : agent_answer left ≡ record { answer = Ok 155; offset = 0; name = part 144 2 }
   pub file_read : record_answer left 1
-      ≡ record { answer = Done 155; words = record { tag = 3418582331; flags = 0; start = 1048576; size = 5; name = 3; meta = 6 }; name = part 147 2; meta = part 150 0 }
+      ≡ record { answer = Ok 155; words = record { tag = 3418582331; flags = 0; start = 1048576; size = 5; name = 3; meta = 6 }; name = part 147 2; meta = part 150 0 }
   pub line_read : record_answer left 2
-      ≡ record { answer = Done 155; words = record { tag = 1129398468; flags = 0; start = 0; size = 0; name = 9; meta = 7 }; name = no_part; meta = part 151 3 }
+      ≡ record { answer = Ok 155; words = record { tag = 1129398468; flags = 0; start = 0; size = 0; name = 9; meta = 7 }; name = no_part; meta = part 151 3 }
   pub past : record_answer left 4 ≡ record_refused (refused 3 155)
   -- ---- by `WritesAgain` its reading writes the same bytes
-  pub again : payload_written (out 156) records_written parts_written left ≡ (Done 155, written ++ (165 ∷ []))
+  pub again : payload_written (out 156) records_written parts_written left ≡ (Ok 155, written ++ (165 ∷ []))
   -- with just the room
-  pub again_exact : payload_written (out 155) records_written parts_written left ≡ (Done 155, written)
+  pub again_exact : payload_written (out 155) records_written parts_written left ≡ (Ok 155, written)
   -- bytes 1 and 255 of a string, by `WritesBack`
   pub widest : let d = (payload_written (out 84) (line (0 ∷ 0 ∷ 0 ∷ 0 ∷ []) ++ last 255 1) (0 ∷ 0 ∷ 9 ∷ 9 ∷ 0 ∷ 2 ∷ []) (1 ∷ 255 ∷ [])).1 in
       part_in d (record_answer d 0).meta ≡ 1 ∷ 255 ∷ []

@@ -1,10 +1,9 @@
 -- What is read of a payload, written again. Proved in proofs/WritesAgain.antt: `writes_reading`, `writes_again`.
 -- A reader has to believe this file.
-use Rattle.std.specs.Prelude.{ℕ, zero, suc, ◌≤◌, ◌≡◌, List, [], ◌∷◌, ◌++◌, take}
+use Rattle.std.specs.Prelude.{ℕ, zero, suc, ◌≤◌, ◌≡◌, List, [], ◌∷◌, ◌++◌, take, Ok}
 use Rattle.byte_layout.specs.Fields.{cells, filled}
 use Rattle.byte_layout.specs.Stored.{Bytes, over}
 use Rattle.lent_buffers.specs.Room.{room_of}
-use Rattle.refusals.specs.declared.Answer.TheVariants.{Done}
 use Rattle.handover_format.specs.Payloads.{Payload}
 use Rattle.handover_format.specs.PayloadLayouts.{record_fields}
 use Rattle.handover_format.specs.PayloadDecoding.{stored_count}
@@ -37,10 +36,10 @@ parts_read d = let a = agent_answer d in a.name.start ∷ a.name.length ∷ part
 abbrev pub WritesReading : Type 0
 WritesReading =
     (d : List ℕ) (p : Payload) → HoldsPayload d p → (e : List ℕ) → payload_size p.agent_name p.entries ≤ room_of e
-    → payload_written e (records_read d) (parts_read d) d ≡ (Done (payload_size p.agent_name p.entries), over (payload_bytes p.agent_name p.entries) e)
+    → payload_written e (records_read d) (parts_read d) d ≡ (Ok (payload_size p.agent_name p.entries), over (payload_bytes p.agent_name p.entries) e)
 
 -- a payload so written, read and written again from its reading, has the same bytes
 abbrev pub WritesAgain : Type 0
 WritesAgain =
-    (b rs ps run : List ℕ) (n : ℕ) → Bytes rs → Bytes run → (payload_written b rs ps run).0 ≡ Done n → (e : List ℕ) → n ≤ room_of e
-    → let d = (payload_written b rs ps run).1 in payload_written e (records_read d) (parts_read d) d ≡ (Done n, over (take n d) e)
+    (b rs ps run : List ℕ) (n : ℕ) → Bytes rs → Bytes run → (payload_written b rs ps run).0 ≡ Ok n → (e : List ℕ) → n ≤ room_of e
+    → let d = (payload_written b rs ps run).1 in payload_written e (records_read d) (parts_read d) d ≡ (Ok n, over (take n d) e)

@@ -1,8 +1,7 @@
 -- What is written reads back as it was given. Proved in proofs/WritesBack.antt: `writes_back`.
 -- A reader has to believe this file.
-use Rattle.std.specs.Prelude.{ℕ, ◌≤◌, ◌≡◌, List, length, get_or}
+use Rattle.std.specs.Prelude.{ℕ, ◌≤◌, ◌≡◌, List, length, get_or, Ok}
 use Rattle.byte_layout.specs.Stored.{Bytes}
-use Rattle.refusals.specs.declared.Answer.TheVariants.{Done}
 use Rattle.handover_format.specs.Payloads.{Payload}
 use Rattle.handover_format.specs.WrittenForm.{payload}
 use Rattle.handover_acceptance.specs.PayloadAcceptance.{HoldsPayload}
@@ -27,5 +26,5 @@ pub record WrittenBack (b d : List ℕ) (p : Payload) (n : ℕ) : Type 0 where
 -- where writing succeeds, the buffer holds just the list given, and the value is its size
 abbrev pub WritesBack : Type 0
 WritesBack =
-    (b rs ps run : List ℕ) (n : ℕ) → Bytes rs → Bytes run → (payload_written b rs ps run).0 ≡ Done n
+    (b rs ps run : List ℕ) (n : ℕ) → Bytes rs → Bytes run → (payload_written b rs ps run).0 ≡ Ok n
     → WrittenBack b (payload_written b rs ps run).1 (payload_given rs ps run) n

@@ -1,13 +1,12 @@
 -- Which refusal writing gives, exactly, and what it then leaves. Each condition is asked by itself, whatever else is broken; which of several
 -- is given is said after them. Proved in proofs/WritingRefusals.antt: `writing_refuses`, `refused_keeps`, `writing_succeeds`.
 -- A reader has to believe this file.
-use Rattle.std.specs.Prelude.{ℕ, ◌+◌, ◌<◌, ◌≡◌, ◌↔◌, true, List, [], ◌∷◌, length, get_or}
+use Rattle.std.specs.Prelude.{ℕ, ◌+◌, ◌<◌, ◌≡◌, ◌↔◌, true, List, [], ◌∷◌, length, get_or, Ok, Err}
 use Rattle.lent_buffers.specs.Room.{room_of}
 use Rattle.refusals.specs.Refusals.{COUNT, RANGE, ROOM, STRING, END}
 use Rattle.refusals.specs.Answers.{number_of, value_of}
 use Rattle.refusals.specs.Order.{First, NoneBreaks}
 use Rattle.refusals.specs.declared.Refusal.{Refusal}
-use Rattle.refusals.specs.declared.Answer.TheVariants.{Done, Refused}
 use Rattle.handover_format.specs.Payloads.{handover_end, names_name, names_meta}
 use Rattle.handover_format.specs.WrittenForm.{payload_size}
 use Rattle.handover_arguments.specs.PayloadGiven.{count_given, record_given, agent_part, name_part, meta_part, start_given, length_given, agent_given, entries_given}
@@ -49,14 +48,14 @@ writing_order = COUNT ∷ END ∷ RANGE ∷ STRING ∷ ROOM ∷ []
 abbrev pub WritingRefuses : Type 0
 WritingRefuses =
     (b rs ps run : List ℕ) (r : Refusal)
-    → ((payload_written b rs ps run).0 ≡ Refused r) ↔ (First writing_order (WritingBreaks rs ps run (room_of b)) (number_of (Refused r)) × (value_of (Refused r) ≡ 0))
+    → ((payload_written b rs ps run).0 ≡ Err r) ↔ (First writing_order (WritingBreaks rs ps run (room_of b)) (number_of (Err r)) × (value_of (Err r) ≡ 0))
 
 -- where writing is refused, the buffer stays
 abbrev pub RefusedKeeps : Type 0
-RefusedKeeps = (b rs ps run : List ℕ) (r : Refusal) → (payload_written b rs ps run).0 ≡ Refused r → (payload_written b rs ps run).1 ≡ b
+RefusedKeeps = (b rs ps run : List ℕ) (r : Refusal) → (payload_written b rs ps run).0 ≡ Err r → (payload_written b rs ps run).1 ≡ b
 
 -- where no condition is met, and nowhere else, the payload's size is answered
 abbrev pub WritingSucceeds : Type 0
 WritingSucceeds =
     (b rs ps run : List ℕ) (n : ℕ)
-    → ((payload_written b rs ps run).0 ≡ Done n) ↔ (NoneBreaks (WritingBreaks rs ps run (room_of b)) × (n ≡ payload_size (agent_given ps run) (entries_given rs ps run)))
+    → ((payload_written b rs ps run).0 ≡ Ok n) ↔ (NoneBreaks (WritingBreaks rs ps run (room_of b)) × (n ≡ payload_size (agent_given ps run) (entries_given rs ps run)))

@@ -1,12 +1,8 @@
 -- `handover_arguments::judge::all_strings` meets its contract: the test holds of every record before `i`.
-use Prim.Native.Nat.{◌-◌, ◌≤◌}
 use mathlib.Core.Path.{◌≡◌}
 use mathlib.Core.Bool.{true}
 use Rattle.handover_arguments.specs.Judging.{every, strings_good}
 use Rattle.handover_arguments.proofs.judge.all_strings.Given as goal
 
 abbrev pub invariant-loop-i : goal.invariant-loop-i
-invariant-loop-i l = (l.i ≤ l.count) × (every (strings_good l.records l.parts l.run) l.i ≡ true)
-
-abbrev pub decreases-loop-i : goal.decreases-loop-i
-decreases-loop-i l = l.count - l.i
+invariant-loop-i l = every (strings_good l.records l.parts l.run) l.i ≡ true
