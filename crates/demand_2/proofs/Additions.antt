@@ -1,4 +1,5 @@
 -- What an add is given becomes an attribute that meets the rules and fits its fields, where it breaks none of 12 to 16.
+use Rattle.std.specs.Prelude.{Option, Some, None}
 use Prim.Native.Nat.{ℕ, zero, suc, ◌-◌, ◌≤◌, ◌<◌, ◌%◌}
 use mathlib.Core.Path.{◌≡◌, refl, ◌∙◌}
 use mathlib.Core.Bool.{Bool, true, ◌&&◌}
@@ -14,14 +15,10 @@ use Rattle.byte_layout.specs.Stored.{Bytes}
 use Rattle.ultra_format.specs.Layouts.{member_fields, depth_fields, entries_fields, body_fields, attribute_fields}
 use Rattle.ultra_format.specs.Members.{every, nonzero, ascii, ascii_text, path_text, texts}
 use Rattle.ultra_format.specs.Rules.{TypeSuits, AttributeMeets}
-use Rattle.ultra_format.specs.Records.{member_of_u64, member_of_u8, unless_trailing, trimmed}
+use Rattle.ultra_format.specs.Records.{member_of, unless_trailing, trimmed}
 use Rattle.ultra_format.specs.Additions.{Addition, entries_given, body_given, type_given, size_given, attribute_given, addition_check, bytes_given, formed}
 use Rattle.ultra_format.specs.Additions.{Addition.add_platform, Addition.add_kernel, Addition.add_map, Addition.add_module, Addition.add_command_line, Addition.add_framebuffer}
 use Rattle.ultra_format.specs.declared.records.PlatformRecord.{PlatformRecord}
-use Rattle.ultra_format.specs.declared.records.OptionalU64.{OptionalU64}
-use Rattle.ultra_format.specs.declared.records.OptionalU64.TheVariants as wide
-use Rattle.ultra_format.specs.declared.records.OptionalU8.{OptionalU8}
-use Rattle.ultra_format.specs.declared.records.OptionalU8.TheVariants as narrow
 use Rattle.refusals.proofs.Chains.{both_hold}
 use Rattle.ultra_format.proofs.Bodies.{late_fields}
 use Rattle.ultra_adding.proofs.Adding.{given_holds}
@@ -71,22 +68,22 @@ trimmed_bytes (x ∷ l) y = kept x (trimmed l) (y 0) (trimmed_bytes l (λ i. y (
 array_fits : (k : ℕ) (l : List ℕ) → ArrayTyped k l → FieldFits (raw k l)
 array_fits k l y = (y.0, λ i h. y.1 i)
 
-wide_fits : (o : OptionalU64) → WideTyped o → Fits (member_fields 8 (member_of_u64 o))
+wide_fits : (o : Option ℕ) → WideTyped o → Fits (member_fields 8 (member_of o))
 unfolding Fits
-wide_fits (wide.Present n) y = (y, tt)
-wide_fits wide.Absent y = tt
+wide_fits (Some n) y = (y, tt)
+wide_fits None y = tt
 
-depth_fits : (o : OptionalU8) → NarrowTyped o → Fits (depth_fields (member_of_u8 o))
+depth_fits : (o : Option ℕ) → NarrowTyped o → Fits (depth_fields (member_of o))
 unfolding Fits
-depth_fits (narrow.Present n) y = (y, (tt, tt))
-depth_fits narrow.Absent y = tt
+depth_fits (Some n) y = (y, (tt, tt))
+depth_fits None y = tt
 
 padding_fits : (k : ℕ) → Fits (padding k ∷ [])
 unfolding Fits
 padding_fits k = (tt, tt)
 
 late_fits : (s : ℕ) (r : PlatformRecord) → PlatformTyped r
-    → Fits (late_fields s (member_of_u64 r.higher_half_base) (member_of_u8 r.depth) (member_of_u64 r.dtb) (member_of_u64 r.smbios))
+    → Fits (late_fields s (member_of r.higher_half_base) (member_of r.depth) (member_of r.dtb) (member_of r.smbios))
 late_fits s r y =
     fits_append _ _ (fits_append _ _ (fits_append _ _ (fits_append _ _ (wide_fits r.higher_half_base y.higher_half_base) (depth_fits r.depth y.depth))
     (wide_fits r.dtb y.dtb)) (wide_fits r.smbios y.smbios)) (padding_fits (s - 88))

@@ -1,10 +1,10 @@
 -- What is answered after calls, from the demand and from the list and the answer of the model, which witnesses find by computation.
+use Rattle.std.specs.Prelude.{Ok}
 use Prim.Native.Nat.{ℕ, ◌≤◌}
 use mathlib.Core.Path.{◌≡◌, ap, ◌∙◌, subst}
 use mathlib.Core.List.{List, []}
 use lib.ListN.{length}
 use Rattle.lent_buffers.specs.Room.{room_of}
-use Rattle.refusals.specs.declared.Answer.TheVariants.{Done}
 use Rattle.ultra_format.specs.Additions.{Addition}
 use Rattle.ultra_format.specs.declared.records.ModuleRecord.{ModuleRecord}
 use Rattle.ultra_building.specs.Building.{begun}
@@ -22,7 +22,7 @@ ModulesOf k = (ms : List ModuleRecord) → in_rattle k ≡ write (add_modules ms
 
 -- the calls ks, which leave the list gs in the room
 module _ (b : List ℕ) (room : ℕ) (e : room_of b ≡ room) (long : 8 ≤ length b) (ks : List AnyCall) (gs : List Addition) (l : list_after_all room ks [] ≡ gs) where
-  pub begins : (begun b).0 ≡ Done 8
+  pub begins : (begun b).0 ≡ Ok 8
   begins = (demand_2.begins b long).0
 
   pub list_now_law : list_now b ks ≡ gs

@@ -1,4 +1,5 @@
 -- Adding to a buffer that holds a context appends the attribute given.
+use Rattle.std.specs.Prelude.{Ok}
 use Prim.Native.Nat.{ℕ, zero, suc, ◌+◌, ◌≤◌, ◌<◌}
 use mathlib.Core.Path.{◌≡◌, refl, sym, ap, ap₂, ◌∙◌, subst}
 use mathlib.Core.List.{List, [], ◌∷◌, ◌++◌}
@@ -18,7 +19,6 @@ use Rattle.ultra_format.specs.Places.{place_check}
 use Rattle.ultra_format.specs.Rules.{AttributeMeets, Meets}
 use Rattle.ultra_format.specs.Decoding.{stored_type, stored_count, types_before}
 use Rattle.ultra_format.specs.Additions.{Addition, type_given, size_given, attribute_given, bytes_given, addition_check, body_given}
-use Rattle.refusals.specs.declared.Answer.TheVariants.{Done}
 use Rattle.ultra_format.proofs.Attributes.{Sized, sized, Says, opens_says}
 use Rattle.ultra_format.proofs.Rows.{total_append}
 use Rattle.ultra_format.proofs.Decoded.{starts}
@@ -207,11 +207,11 @@ module _ (b : List ℕ) (c : Context) (g : Addition) (h : HoldsContext 0 b c) (y
   other_bytes_law i (inr (inr k)) = changed.past i (omega (arith, ap used (as_edit c a), total_more l a))
 
 -- what an accepted add leaves holds one attribute more
-pub appends : (b : List ℕ) (c : Context) (g : Addition) (n : ℕ) → HoldsContext 0 b c → AdditionTyped g → (added b g).0 ≡ Done n → Appended b c g (added b g).1 n
+pub appends : (b : List ℕ) (c : Context) (g : Addition) (n : ℕ) → HoldsContext 0 b c → AdditionTyped g → (added b g).0 ≡ Ok n → Appended b c g (added b g).1 n
 appends b c g n h y e = let q = added_held b c g h in rw q (go (check_on b c g) refl (rw q at e))
   where
-    go : (f : ℕ) → check_on b c g ≡ f → (added_at b (body_given g) (or_refused f (used c) (Done (used c)))).0 ≡ Done n
-        → Appended b c g (added_at b (body_given g) (or_refused f (used c) (Done (used c)))).1 n
+    go : (f : ℕ) → check_on b c g ≡ f → (added_at b (body_given g) (or_refused f (used c) (Ok (used c)))).0 ≡ Ok n
+        → Appended b c g (added_at b (body_given g) (or_refused f (used c) (Ok (used c)))).1 n
     go zero z r =
         let w : used c + size_given g ≡ n = ap value_of r in
         record { held = held_more b c g h y z; answered = sym w; zeros = fresh_zeros b c g h y z; others = λ i k. other_bytes_law b c g h y z i (rw (← w) at k) }

@@ -1,5 +1,6 @@
 -- Demand 2 holds. The calls keep buffer and list alike (Following) and answer by the list (Replies), and what is read back of a buffer
 -- are the records of its attributes (ReadingBack, Rebuilding).
+use Rattle.std.specs.Prelude.{Ok, Err}
 use Prim.Native.Nat.{ℕ, ◌+◌, ◌-◌, ◌≤◌, ◌<◌}
 use mathlib.Core.Path.{◌≡◌, refl, ap, ◌∙◌, subst, sym}
 use mathlib.Core.Bool.{Bool, true, false}
@@ -11,14 +12,12 @@ use borrow.Author.Tests.{leb-true, lt-leb}
 use lib.Seq.{get_or-drop, get_or-append-add}
 use Rattle.byte_layout.specs.Stored.{over}
 use Rattle.refusals.specs.Refusals.{SHORT}
-use Rattle.refusals.specs.Answers.{refused, number_of}
+use Rattle.refusals.specs.Answers.{Answer, refused, number_of}
 use Rattle.lent_buffers.specs.Room.{room_of}
 use Rattle.ultra_format.specs.Decoding.{pick}
 use Rattle.ultra_format.specs.Contexts.{Body, type_of}
 use Rattle.ultra_format.specs.Plain.{written_size}
 use Rattle.ultra_format.specs.Additions.{body_given, formed, given_check}
-use Rattle.refusals.specs.declared.Answer.{Answer}
-use Rattle.refusals.specs.declared.Answer.TheVariants.{Done, Refused}
 use Rattle.ultra_format.specs.declared.records.ModuleRecord.{ModuleRecord}
 use Rattle.ultra_appending.specs.Appending.{append_offset}
 use Rattle.ultra_adding.specs.Adding.{added_at, added_members}
@@ -40,7 +39,7 @@ use Rattle.demand_2.proofs.Replies.{held_two, any_reply_law}
 use Rattle.demand_2.proofs.ReadingBack.{reads_back_law}
 use Rattle.demand_2.proofs.Rebuilding.{rebuilds}
 
-begins : (b : List ℕ) → 8 ≤ length b → ((begun b).0 ≡ Done 8) × ((i : ℕ) → 8 ≤ i → get_or (begun b).1 i 0 ≡ get_or b i 0)
+begins : (b : List ℕ) → 8 ≤ length b → ((begun b).0 ≡ Ok 8) × ((i : ℕ) → 8 ≤ i → get_or (begun b).1 i 0 ≡ get_or b i 0)
 begins b h =
     rw (begun_is b h) (
       refl,
@@ -54,16 +53,16 @@ unfolding begun
 begins_not_law b h = rw (lt-leb 8 (room_of b) (omega arith))
 
 -- an accepted beginning had the room
-begun_long : (b : List ℕ) → (begun b).0 ≡ Done 8 → 8 ≤ length b
+begun_long : (b : List ℕ) → (begun b).0 ≡ Ok 8 → 8 ≤ length b
 unfolding begun
 begun_long b e = go (leb 8 (room_of b)) refl e
   where
-    go : (t : Bool) → leb 8 (room_of b) ≡ t → (pick {X = Answer × List ℕ} t (Done 8, over empty_head b) (refused SHORT 0, b)).0 ≡ Done 8 → 8 ≤ length b
+    go : (t : Bool) → leb 8 (room_of b) ≡ t → (pick {X = Answer × List ℕ} t (Ok 8, over empty_head b) (refused SHORT 0, b)).0 ≡ Ok 8 → 8 ≤ length b
     go true q w = omega (arith, leb-true 8 (room_of b) q)
     go false q w = absurd (let z : ◌≡◌ {A = ℕ} 0 1 = cc in omega arith)
 
 -- ---- after any further calls
-module _ (b : List ℕ) (ks : List AnyCall) (e : (begun b).0 ≡ Done 8) (y : AllTyped ks) where
+module _ (b : List ℕ) (ks : List AnyCall) (e : (begun b).0 ≡ Ok 8) (y : AllTyped ks) where
   -- the buffer is as long as it was, and keeps to the list
   kept : Keeps (buffer_now b ks) (list_now b ks) × (length (buffer_now b ks) ≡ length b)
   kept =
@@ -83,7 +82,7 @@ module _ (b : List ℕ) (ks : List AnyCall) (e : (begun b).0 ≡ Done 8) (y : Al
   reads : 2 ≤ length (list_now b ks) → ReadsBack (buffer_now b ks) (list_now b ks)
   reads h = reads_back_law (buffer_now b ks) (list_now b ks) (two h) kept.0.added
 
-answers : (b : List ℕ) (ks : List AnyCall) (k : AnyCall) → (begun b).0 ≡ Done 8 → AllTyped ks
+answers : (b : List ℕ) (ks : List AnyCall) (k : AnyCall) → (begun b).0 ≡ Ok 8 → AllTyped ks
     → ((ms : List ModuleRecord) → in_rattle k ≡ write (add_modules ms) → ModulesTyped ms)
     → (Undetermined (room_of b) (context_given (list_now b ks)) (in_rattle k) → ⊥)
     → (run_any k (buffer_now b ks)).0 ≡ any_reply (room_of b) k (list_now b ks)
@@ -101,17 +100,17 @@ unfolding added_members
 kept_members b f x a e n = go (append_offset b (type_of x) (given_check f x) (written_size x)) e
   where
     go : (p : Answer) → answer (added_at b x p).0 ≡ answer a → (added_at b x p).1 ≡ b
-    go (Done v) w = absurd (n (ap number_of (same a (Done (v + written_size x)) (sym w))))
-    go (Refused r) w = refl
+    go (Ok v) w = absurd (n (ap number_of (same a (Ok (v + written_size x)) (sym w))))
+    go (Err r) w = refl
 
 refusals : (b : List ℕ) (k : Call) (a : Answer) → (run k b).0 ≡ answer a → (number_of a ≡ 0 → ⊥) → (run k b).1 ≡ b
 unfolding run_write begun
 refusals b (ask q) a e n = refl
 refusals b (write begin) a e n = go (leb 8 (room_of b)) e
   where
-    go : (t : Bool) → answer (pick {X = Answer × List ℕ} t (Done 8, over empty_head b) (refused SHORT 0, b)).0 ≡ answer a
-        → (pick {X = Answer × List ℕ} t (Done 8, over empty_head b) (refused SHORT 0, b)).1 ≡ b
-    go true w = absurd (n (ap number_of (same a (Done 8) (sym w))))
+    go : (t : Bool) → answer (pick {X = Answer × List ℕ} t (Ok 8, over empty_head b) (refused SHORT 0, b)).0 ≡ answer a
+        → (pick {X = Answer × List ℕ} t (Ok 8, over empty_head b) (refused SHORT 0, b)).1 ≡ b
+    go true w = absurd (n (ap number_of (same a (Ok 8) (sym w))))
     go false w = refl
 refusals b (write (add g)) a e n = kept_members b (formed g) (body_given g) a e n
 refusals b (write (add_members m)) a e n = kept_members b (members_formed m) (members_body m) a e n

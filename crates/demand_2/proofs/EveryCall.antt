@@ -1,4 +1,5 @@
 -- The demand used where its premises end: calls of every kind, the widest arguments, two attributes, a head that another writer began.
+use Rattle.std.specs.Prelude.{Ok}
 use Prim.Native.Nat.{ℕ, zero, suc, ◌+◌, ◌%◌, ◌<◌, ◌≤◌}
 use mathlib.Core.Path.{◌≡◌, refl, sym, ap, ◌∙◌, subst}
 use mathlib.Core.Bool.{true}
@@ -35,7 +36,6 @@ use Rattle.ultra_acceptance.proofs.Acceptance.{accepts_exactly}
 use Rattle.ultra_appending.specs.Appending.{append_check, append_offset}
 use Rattle.ultra_adding.specs.Adding.{added_members, added}
 use Rattle.ultra_building.specs.Building.{begun}
-use Rattle.refusals.specs.declared.Answer.TheVariants.{Done}
 use Rattle.ultra_format.specs.declared.records.ModuleRecord.{ModuleRecord}
 use Rattle.ultra_modules.specs.Modules.{in_turn}
 use Rattle.ultra_question_statements.specs.Witness.{every_line}
@@ -171,7 +171,7 @@ unfolding list_after_all adds attributes_given types_after append_check place_ch
 two_listed = refl
 
 module _ (w : AllTyped (adds six_additions)) (b : List ℕ) (e : length b ≡ 432) where
-  begun_two : (begun b).0 ≡ Done 8
+  begun_two : (begun b).0 ≡ Ok 8
   begun_two = (demand_2.begins b (omega arith)).0
 
   two_now : list_now b (adds two) ≡ two
@@ -205,7 +205,7 @@ pub two_are_enough : AllTyped (adds six_additions) → TwoAreEnough
 two_are_enough w = record { one_is_not = one_is_not_law w; back = two_back w; through = two_through w }
 
 -- ---- heads
-pub head : (b : List ℕ) → length b ≡ 8 → begun b ≡ (Done 8, 1 ∷ zeros 7)
+pub head : (b : List ℕ) → length b ≡ 8 → begun b ≡ (Ok 8, 1 ∷ zeros 7)
 unfolding after list_after_all AllTyped attributes_given attributes_fields total cells filled
 head b e =
     let h = (demand_2.begins b (omega arith)).0 in
@@ -218,7 +218,7 @@ other_bytes_law : Bytes other_head
 unfolding every
 other_bytes_law = some_bytes other_head refl
 
-other_empty : used_length 0 other_head ≡ Done 8
+other_empty : used_length 0 other_head ≡ Ok 8
 unfolding used_length head_check attributes_answer start number_at
 other_empty = refl
 
@@ -230,7 +230,7 @@ other_held =
 abbrev any_platform : Addition
 any_platform = add_platform every_platform_record.platform
 
-other_answered : (added other_head any_platform).0 ≡ Done 96
+other_answered : (added other_head any_platform).0 ≡ Ok 96
 unfolding added_members append_offset used_length head_check attributes_answer start types_before number_at append_check place_check placed occurs body_given trimmed written_size given_check body_check size_suits values texts ascii_text every ranges ordered
 other_answered = refl
 
@@ -270,7 +270,7 @@ any_arguments =
     }
 
 -- ---- what was built is plain
-module _ (b : List ℕ) (ks : List AnyCall) (e : (begun b).0 ≡ Done 8) (y : AllTyped ks) where
+module _ (b : List ℕ) (ks : List AnyCall) (e : (begun b).0 ≡ Ok 8) (y : AllTyped ks) where
   abbrev built : Context
   built = context_given (list_now b ks)
 

@@ -1,4 +1,5 @@
 -- After every call the buffer is as the list says.
+use Rattle.std.specs.Prelude.{Ok}
 use Prim.Native.Nat.{ℕ, zero, suc, ◌+◌, ◌≤◌, ◌<◌, min}
 use mathlib.Core.Bool.{Bool}
 use mathlib.Core.Path.{◌≡◌, refl, sym, ap, ◌∙◌, subst}
@@ -9,7 +10,7 @@ use lib.ListN.{length, get_or, take, length-drop}
 use borrow.Author.Tests.{le-leb}
 use Rattle.byte_layout.specs.Fields.{cells, filled, Fits}
 use Rattle.byte_layout.specs.Stored.{over}
-use Rattle.refusals.specs.Answers.{or_refused}
+use Rattle.refusals.specs.Answers.{Answer, or_refused}
 use Rattle.ultra_format.specs.Contexts.{Body, type_of, Attribute, Context, total, used}
 use Rattle.lent_buffers.specs.Room.{room_of}
 use Rattle.ultra_format.specs.Layouts.{attributes_fields, layout, Opens, written}
@@ -18,8 +19,6 @@ use Rattle.ultra_format.specs.Decoding.{stored_type, stored_count, types_before}
 use Rattle.ultra_format.specs.Plain.{written_size}
 use Rattle.ultra_format.specs.Additions.{Addition, attribute_given, addition_check, size_given, body_given, formed, given_check}
 use Rattle.ultra_format.specs.Additions.{Addition.add_module, Addition.add_command_line}
-use Rattle.refusals.specs.declared.Answer.{Answer}
-use Rattle.refusals.specs.declared.Answer.TheVariants.{Done}
 use Rattle.ultra_format.specs.declared.records.ModuleRecord.{ModuleRecord}
 use Rattle.ultra_format.proofs.Attributes.{at, sized, Says, opens_says}
 use Rattle.byte_layout.proofs.Cells.{at_opens}
@@ -104,13 +103,13 @@ module _ (d : List ℕ) (gs : List Addition) (f : Follows d gs) where
   long = omega (arith, f.held.0.within)
 
   -- what an add does, by the refusal of the list
-  pub added_is : (ok : Bool) (x : Body) → added_members d ok x ≡ added_at d x (or_refused (members_refusal (room_of d) gs ok x) (used (context_given gs)) (Done (used (context_given gs))))
+  pub added_is : (ok : Bool) (x : Body) → added_members d ok x ≡ added_at d x (or_refused (members_refusal (room_of d) gs ok x) (used (context_given gs)) (Ok (used (context_given gs))))
   added_is ok x = members_held d (context_given gs) ok x f.held ∙ rw (same_check ok x)
 
   -- and what it answers
   pub add_reply : (x : Body) (g : Addition) → written_size x ≡ size_given g → (n : ℕ)
-      → (added_at d x (or_refused n (used (context_given gs)) (Done (used (context_given gs))))).0 ≡ add_answer n gs g
-  add_reply x g e zero = ap Done (ap (λ (s : ℕ). used (context_given gs) + s) e ∙ sym (used_more gs g))
+      → (added_at d x (or_refused n (used (context_given gs)) (Ok (used (context_given gs))))).0 ≡ add_answer n gs g
+  add_reply x g e zero = ap Ok (ap (λ (s : ℕ). used (context_given gs) + s) e ∙ sym (used_more gs g))
   add_reply x g e (suc n) = refl
 
 pub same_room : (d b : List ℕ) → length d ≡ length b → room_of d ≡ room_of b
@@ -136,7 +135,7 @@ empty_meets room h =
     }
 
 module _ (b : List ℕ) (h : 8 ≤ length b) where
-  pub begun_is : begun b ≡ (Done 8, over empty_head b)
+  pub begun_is : begun b ≡ (Ok 8, over empty_head b)
   unfolding begun
   begun_is = rw (le-leb 8 (room_of b) (omega arith))
 
@@ -175,7 +174,7 @@ module _ (d : List ℕ) (gs : List Addition) (h : Keeps d gs) where
   add_follows g y = rw (added_is d gs h.follows (formed g) (body_given g)) (go (refusal_of (room_of d) gs g) refl)
     where
       go : (f : ℕ) → refusal_of (room_of d) gs g ≡ f
-          → Keeps (added_at d (body_given g) (or_refused f (used now) (Done (used now)))).1 (appended f gs g) × (length (added_at d (body_given g) (or_refused f (used now) (Done (used now)))).1 ≡ length d)
+          → Keeps (added_at d (body_given g) (or_refused f (used now) (Ok (used now)))).1 (appended f gs g) × (length (added_at d (body_given g) (or_refused f (used now) (Ok (used now)))).1 ≡ length d)
       go (suc f) e = (h, refl)
       go zero e =
           let k = h.follows.held in
@@ -223,7 +222,7 @@ module_follows b d gs m h y =
 pub modules_follow : (d : List ℕ) (gs : List Addition) (ms : List ModuleRecord) → Keeps d gs → ModulesTyped ms
     → ((modules_added d ms).0 ≡ (modules_listed (room_of d) gs ms).0) × Kept d (modules_added d ms).1 (modules_listed (room_of d) gs ms).1
 unfolding modules_added modules_listed
-modules_follow d gs ms h y = alike (room_of d) (Kept d) (module_follows d) (Done 0) 0 d gs ms (h, refl) y
+modules_follow d gs ms h y = alike (room_of d) (Kept d) (module_follows d) (Ok 0) 0 d gs ms (h, refl) y
 
 pub step_follows : (d : List ℕ) (gs : List Addition) (k : Call) → Keeps d gs → CallTyped k → Keeps (run k d).1 (list_after (room_of d) k gs) × (length (run k d).1 ≡ length d)
 unfolding run_write

@@ -1,4 +1,5 @@
 -- Members given one by one, of their types: an add of them is the add of the record that has them, or is refused.
+use Rattle.std.specs.Prelude.{Ok, Err}
 use Prim.Native.Nat.{ℕ, zero, suc, ◌+◌, ◌/◌, ◌<◌}
 use mathlib.Core.Path.{◌≡◌, refl, sym, ◌∙◌}
 use mathlib.Core.Bool.{true}
@@ -16,8 +17,7 @@ use Rattle.ultra_format.specs.Members.{texts}
 use Rattle.ultra_format.specs.Rules.{TypeSuits}
 use Rattle.ultra_format.specs.Plain.{written_size}
 use Rattle.ultra_format.specs.Additions.{body_given, formed, given_check, size_given, entries_given}
-use Rattle.refusals.specs.declared.Answer.{Answer}
-use Rattle.refusals.specs.declared.Answer.TheVariants.{Done, Refused}
+use Rattle.refusals.specs.Answers.{Answer}
 use Rattle.ultra_acceptance.proofs.Walked.{BodyHolds}
 use Rattle.ultra_adding.specs.Adding.{added_members}
 use Rattle.ultra_adding.proofs.Adding.{given_holds}
@@ -94,5 +94,5 @@ module _ (b : List ℕ) (m : Members) where
   as_record_law y = go (append_offset b (type_of (members_body m)) (given_check (members_formed m) (members_body m)) (written_size (members_body m))) refl
     where
       go : (p : Answer) → append_offset b (type_of (members_body m)) (given_check (members_formed m) (members_body m)) (written_size (members_body m)) ≡ p → AsRecord b m
-      go (Done n) e = let r = record_of m y (appended_at b _ _ _ n e).1.sound in inr (r.typed, r.body, same_run r)
-      go (Refused r) e = inl (r, rw e)
+      go (Ok n) e = let r = record_of m y (appended_at b _ _ _ n e).1.sound in inr (r.typed, r.body, same_run r)
+      go (Err r) e = inl (r, rw e)

@@ -1,12 +1,12 @@
 -- Several modules in one call are single adds in a row: of a buffer that follows a list, of any buffer, and of any that holds a context.
+use Rattle.std.specs.Prelude.{Ok, Err}
 use Prim.Native.Nat.{ℕ, zero, suc, ◌+◌, ◌≤◌, ◌<◌}
 use mathlib.Core.Path.{◌≡◌, refl, sym, ◌∙◌, subst}
 use mathlib.Core.List.{List, [], ◌∷◌, append_assoc, append-nil}
 use native.Mathlib.Nat.{not-suc-le-zero, le_of_suc-le-suc}
 use native.Mathlib.Omega.{arith}
 use lib.ListN.{length, take}
-use Rattle.refusals.specs.declared.Answer.{Answer}
-use Rattle.refusals.specs.declared.Answer.TheVariants.{Done, Refused}
+use Rattle.refusals.specs.Answers.{Answer}
 use Rattle.ultra_format.specs.Contexts.{Attribute, Context}
 use Rattle.ultra_format.specs.Additions.{Addition, Addition.add_module, attribute_given}
 use Rattle.ultra_format.specs.declared.records.ModuleRecord.{ModuleRecord}
@@ -48,8 +48,8 @@ module _ (room : ℕ) (Alike : List ℕ → List Addition → Type 0)
       go : (x : Answer) → Alike (module_added d m).1 (module_listed room gs m).1
           → ((z : Answer) → Both (in_turn module_added z (n + 1) (module_added d m).1 ms) (in_turn (module_listed room) z (n + 1) (module_listed room gs m).1 ms))
           → Next x x
-      go (Done v) k rest = rest (Done v)
-      go (Refused r) k rest = (refl, k)
+      go (Ok v) k rest = rest (Ok v)
+      go (Err r) k rest = (refl, k)
 
 -- ---- of any buffer
 after_adds_law : (b : List ℕ) (ms : List ModuleRecord) → after_adds b ms ≡ after (adds (modules_given ms)) b
@@ -76,12 +76,12 @@ stays b ms =
 
 -- ---- of a buffer that holds a context
 -- a single add that is accepted answers a used length
-accepted : (b : List ℕ) (m : ModuleRecord) → Accepted (module_added b m) → (n : ℕ) × ((module_added b m).0 ≡ Done n)
+accepted : (b : List ℕ) (m : ModuleRecord) → Accepted (module_added b m) → (n : ℕ) × ((module_added b m).0 ≡ Ok n)
 accepted b m z = go (module_added b m).0 refl
   where
-    go : (a : Answer) → (module_added b m).0 ≡ a → (n : ℕ) × ((module_added b m).0 ≡ Done n)
-    go (Done n) e = (n, e)
-    go (Refused r) e = absurd (module_number b m r e z)
+    go : (a : Answer) → (module_added b m).0 ≡ a → (n : ℕ) × ((module_added b m).0 ≡ Ok n)
+    go (Ok n) e = (n, e)
+    go (Err r) e = absurd (module_number b m r e z)
 
 first_held : (b : List ℕ) (c : Context) (ms : List ModuleRecord) (n : ℕ) → HoldsContext 0 b c → ModulesTyped ms → n ≤ length ms
     → ((i : ℕ) → i < n → Accepted (single_add b ms i)) → HoldsContext 0 (after_adds b (take n ms)) (with_modules c (take n ms))

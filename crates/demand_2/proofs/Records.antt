@@ -16,7 +16,7 @@ use Rattle.ultra_format.specs.Contexts.{Member.present, Member.absent, Body.plat
 use Rattle.ultra_format.specs.Layouts.{member_fields, depth_fields, entries_fields, body_fields}
 use Rattle.ultra_format.specs.Rules.{TypeSuits, AttributeMeets}
 use Rattle.ultra_format.specs.Plain.{written_size}
-use Rattle.ultra_format.specs.Records.{optional_u64, optional_u8, records_of}
+use Rattle.ultra_format.specs.Records.{optional, records_of}
 use Rattle.ultra_format.specs.Members.{body_check}
 use Rattle.ultra_format.specs.Additions.{Addition, entries_given, body_given, formed, addition_check, given_check}
 use Rattle.ultra_format.specs.Additions.{Addition.add_platform, Addition.add_kernel, Addition.add_map, Addition.add_module, Addition.add_command_line, Addition.add_framebuffer}
@@ -107,12 +107,12 @@ text_bytes k t f = all_bytes t (λ i h. (f.1 i h).1)
 text_array : (k : ℕ) (t : List ℕ) → FieldFits (text k t) → ArrayTyped k (padded k t)
 text_array k t f = (length_padded k t, padded_bytes k t (text_bytes k t f))
 
-wide_typed : (m : Member) → Fits (member_fields 8 m) → WideTyped (optional_u64 m)
+wide_typed : (m : Member) → Fits (member_fields 8 m) → WideTyped (optional m)
 unfolding Fits
 wide_typed (present n) f = f.0
 wide_typed absent f = tt
 
-narrow_typed : (m : Member) → Fits (depth_fields m) → NarrowTyped (optional_u8 m)
+narrow_typed : (m : Member) → Fits (depth_fields m) → NarrowTyped (optional m)
 unfolding Fits
 narrow_typed (present n) f = f.0
 narrow_typed absent f = tt

@@ -1,4 +1,5 @@
 -- Every call answers by the list, where the buffer follows it.
+use Rattle.std.specs.Prelude.{Err}
 use Prim.Native.Nat.{ℕ, zero, suc, ◌+◌, ◌*◌, ◌%◌, ◌≤◌, ◌<◌}
 use mathlib.Core.Path.{◌≡◌, refl, sym, ap, ap₂, ◌∙◌}
 use mathlib.Core.Bool.{Bool, true, false, ◌&&◌}
@@ -12,24 +13,20 @@ use Rattle.words.specs.Words.{number_at, u32_at, numbers_in}
 use Rattle.key_value_text.specs.Lines.{Line, lines_bytes}
 use Rattle.byte_layout.specs.Stored.{bytes_at}
 use Rattle.refusals.specs.Refusals.{MISSING}
-use Rattle.refusals.specs.Answers.{refused}
+use Rattle.refusals.specs.Answers.{Answer, refused}
 use Rattle.ultra_format.specs.Contexts.{Context, count, used, total}
 use Rattle.lent_buffers.specs.Room.{room_of}
 use Rattle.ultra_format.specs.Layouts.{written}
 use Rattle.ultra_format.specs.Rules.{Meets}
 use Rattle.ultra_format.specs.Decoding.{pick, start, stored_count}
 use Rattle.ultra_format.specs.Additions.{Addition, body_given, formed}
-use Rattle.refusals.specs.declared.Answer.{Answer}
-use Rattle.refusals.specs.declared.Answer.TheVariants.{Refused}
 use Rattle.refusals.proofs.Chains.{both_hold}
 use Rattle.ultra_format.proofs.Decoded.{decoded_only}
 use Rattle.ultra_format.specs.declared.records.ModuleRecord.{ModuleRecord}
 use Rattle.ultra_stepping.specs.Checks.{head_check, bounds_check}
 use Rattle.ultra_reading.specs.Reading.{used_length, version_of, with_version, reading_of}
-use Rattle.ultra_stepping.specs.Stepping.{cursor_check, step_refused, cursor_at, header_at, step_of}
+use Rattle.ultra_stepping.specs.Stepping.{cursor_check, step_refused, cursor_at, header_at, step_of, Step, steps_to, at_end}
 use Rattle.ultra_stepping.specs.declared.cursor.Cursor.{Cursor}
-use Rattle.ultra_stepping.specs.declared.cursor.Step.{Step}
-use Rattle.ultra_stepping.specs.declared.cursor.Step.TheVariants as stepping
 use Rattle.ultra_stepping.proofs.HeadLaws.{HeadHolds, stop_missing, head_passes}
 use Rattle.ultra_reading.proofs.ReadingLaws.{accepted_head, head_refuses}
 use Rattle.ultra_acceptance.specs.Acceptance.{HoldsContext}
@@ -80,7 +77,7 @@ by_count c fewest {r} {x} {y} p q = go (leb fewest (count c)) refl
 -- what a step answers after the tests of the head and the index
 abbrev step_from : List ℕ → Cursor → Step
 step_from b k =
-    step_refused (cursor_check b k.offset) k.offset (stepping.Attribute (header_at b k.offset) (cursor_at (k.index + 1) (k.offset + u32_at b (k.offset + 4))))
+    step_refused (cursor_check b k.offset) k.offset (steps_to (header_at b k.offset) (cursor_at (k.index + 1) (k.offset + u32_at b (k.offset + 4))))
 
 -- what is answered of a map and of lines
 abbrev copied_over : List ℕ → Answer × List ℕ → Reply
@@ -112,7 +109,7 @@ module _ (d : List ℕ) (gs : List Addition) (f : Follows d gs) where
   head_missing : (fewest : ℕ) → count now < fewest → head_check fewest d ≡ MISSING
   head_missing fewest l = sym (stop_missing fewest d head.room head.major head.most (omega (arith, counts)))
 
-  missing : (fewest : ℕ) → count now < fewest → used_length fewest d ≡ Refused too_few
+  missing : (fewest : ℕ) → count now < fewest → used_length fewest d ≡ Err too_few
   missing fewest l =
       let e = head_missing fewest l in
       sym (head_refuses fewest d (λ z. omega arith)) ∙ ap (λ (n : ℕ). refused n 0) e
@@ -123,7 +120,7 @@ module _ (d : List ℕ) (gs : List Addition) (f : Follows d gs) where
   asked : 2 ≤ count now → ByContext d now
   asked l = questions_by_context d now (held_two l)
 
-  unasked : count now < 2 → PassesOn d (Refused too_few)
+  unasked : count now < 2 → PassesOn d (Err too_few)
   unasked l = refusals_pass_on d _ (missing 2 l)
 
   -- ---- parts
@@ -152,7 +149,7 @@ module _ (d : List ℕ) (gs : List Addition) (f : Follows d gs) where
       let h = asked l in
       ap (lent_line d board) h.found ∙ line_given board (line_in now) (ap (λ (p : Part). bytes_at d p.start p.length) (sym h.line) ∙ h.text)
 
-  reading_few : count now < 2 → reading_of d ≡ with_version (version_of d) (Refused too_few)
+  reading_few : count now < 2 → reading_of d ≡ with_version (version_of d) (Err too_few)
   unfolding reading_of
   reading_few l = rw (missing 2 l)
 
@@ -193,11 +190,11 @@ module _ (d : List ℕ) (gs : List Addition) (f : Follows d gs) where
   unfolding step_of
   step_enough k two n = rw (head_enough 2 two, counts) (go (leb (count now) k.index) refl)
     where
-      go : (t : Bool) → leb (count now) k.index ≡ t → pick t stepping.End (step_from d k) ≡ pick t stepping.End (step_within (room_of d) (written now) k)
+      go : (t : Bool) → leb (count now) k.index ≡ t → pick t at_end (step_from d k) ≡ pick t at_end (step_within (room_of d) (written now) k)
       go true e = refl
       go false e = step_within_law k two (leb-false (count now) k.index e) n
 
-  step_few : (k : Cursor) → count now < 2 → step_of d k ≡ stepping.Refused too_few
+  step_few : (k : Cursor) → count now < 2 → step_of d k ≡ Err too_few
   unfolding step_of
   step_few k l = rw (head_missing 2 l)
 

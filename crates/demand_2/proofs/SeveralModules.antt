@@ -1,5 +1,6 @@
 -- Several modules after a platform and a kernel, from the demand: what is answered where all fit, one does not, and one is refused, and what
 -- then reads back. The model's list and answers are found by computation.
+use Rattle.std.specs.Prelude.{Ok}
 use Prim.Native.Nat.{ℕ, zero, suc, ◌≤◌, ◌<◌, ◌^◌}
 use mathlib.Core.Path.{◌≡◌, refl, ap, ◌∙◌, subst}
 use mathlib.Core.List.{List, [], ◌∷◌, ◌++◌}
@@ -7,7 +8,6 @@ use native.Mathlib.Omega.{arith}
 use lib.ListN.{length, take, replicate}
 use Rattle.refusals.specs.Refusals.{VALUE, ROOM}
 use Rattle.refusals.specs.Answers.{refused}
-use Rattle.refusals.specs.declared.Answer.TheVariants.{Done}
 use Rattle.ultra_format.specs.Contexts.{Context, total}
 use Rattle.lent_buffers.specs.Room.{room_of}
 use Rattle.ultra_format.specs.Members.{every, size_suits, kernel_values, module_values, values, ascii_text, path_text, texts, ranges, ordered, body_check}
@@ -48,7 +48,7 @@ with_two = two ++ (add_module (a_module 1) ∷ add_module (a_module 2) ∷ [])
 abbrev Listed : ℕ → List ModuleRecord → ModulesAdded → Type 0
 Listed room ms r = (list_after_all room (adds two) [] ≡ two) × ((modules_listed room two ms).0 ≡ r)
 
-listed : Listed 720 three_modules (answer_and_count (Done 720) 3) × Listed 719 three_modules (answer_and_count (refused ROOM 624) 2) × Listed 720 four_modules (answer_and_count (refused VALUE 624) 2)
+listed : Listed 720 three_modules (answer_and_count (Ok 720) 3) × Listed 719 three_modules (answer_and_count (refused ROOM 624) 2) × Listed 720 four_modules (answer_and_count (refused VALUE 624) 2)
 unfolding list_after_all adds modules_listed in_turn attributes_given types_after append_check place_check placed occurs body_given entries_given trimmed written_size given_check body_check size_suits values kernel_values module_values texts ascii_text path_text every ranges ordered total
 listed = ((refl, refl), (refl, refl), (refl, refl))
 
@@ -90,7 +90,7 @@ typed_any : (n : ℕ) → ModulesTyped (replicate n (a_module 1))
 typed_any zero = tt
 typed_any (suc n) = (typed_module 1 (omega arith), typed_any n)
 
-no_modules_law : (b : List ℕ) → run_any (adding_modules []) b ≡ (several (answer_and_count (Done 0) 0), b)
+no_modules_law : (b : List ℕ) → run_any (adding_modules []) b ≡ (several (answer_and_count (Ok 0) 0), b)
 unfolding run_write modules_added in_turn
 no_modules_law b = refl
 

@@ -1,4 +1,5 @@
 -- What is answered of calls that write, from the demand; the model's answers are found by computation.
+use Rattle.std.specs.Prelude.{Ok}
 use Prim.Native.Nat.{ℕ, ◌≤◌}
 use mathlib.Core.Path.{◌≡◌, refl}
 use mathlib.Core.Bool.{false}
@@ -6,9 +7,7 @@ use mathlib.Core.List.{List, []}
 use native.Mathlib.Omega.{arith}
 use lib.ListN.{length}
 use Rattle.refusals.specs.Refusals.{FORM, ROOM}
-use Rattle.refusals.specs.Answers.{refused}
-use Rattle.refusals.specs.declared.Answer.{Answer}
-use Rattle.refusals.specs.declared.Answer.TheVariants.{Done}
+use Rattle.refusals.specs.Answers.{Answer, refused}
 use Rattle.ultra_format.specs.Contexts.{total}
 use Rattle.lent_buffers.specs.Room.{room_of}
 use Rattle.ultra_format.specs.Members.{every, size_suits, values, ascii_text, texts, ranges, ordered, body_check}
@@ -57,7 +56,7 @@ incomplete = add_members (platform_members false 2 0 0 [] 0 0 0 0 0)
 incomplete_none : NoModules incomplete
 incomplete_none ms e = let z : ◌≡◌ {A = ℕ} 0 1 = cc in omega arith
 
-every_write_law : (b : List ℕ) (ks : List AnyCall) (w : Write) → (begun b).0 ≡ Done 8 → AllTyped ks → NoModules w
+every_write_law : (b : List ℕ) (ks : List AnyCall) (w : Write) → (begun b).0 ≡ Ok 8 → AllTyped ks → NoModules w
     → (run_any (from_rattle (write w)) (buffer_now b ks)).0 ≡ reply_to (room_of b) (write w) (list_now b ks)
 every_write_law b ks w e y n = demand_2.answers b ks (from_rattle (write w)) e y (other w n) (λ u. no_step w u.0 u.1)
 
@@ -71,11 +70,11 @@ none_listed : (room : ℕ) → list_after_all room [] [] ≡ []
 unfolding list_after_all
 none_listed room = refl
 
-begin_reply : reply_to 104 (write begin) one ≡ answer (Done 8)
+begin_reply : reply_to 104 (write begin) one ≡ answer (Ok 8)
 unfolding reply_to attributes_given total
 begin_reply = refl
 
-platform_replies : (reply_to 96 (write a_platform) [] ≡ answer (Done 96)) × (reply_to 95 (write a_platform) [] ≡ answer (refused ROOM 8))
+platform_replies : (reply_to 96 (write a_platform) [] ≡ answer (Ok 96)) × (reply_to 95 (write a_platform) [] ≡ answer (refused ROOM 8))
 unfolding reply_to attributes_given types_after append_check place_check placed occurs body_given trimmed written_size given_check body_check size_suits values texts ascii_text every ranges ordered total
 platform_replies = (refl, refl)
 

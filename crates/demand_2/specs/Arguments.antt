@@ -1,7 +1,7 @@
 -- What is asked of the arguments of adds: that they are of their types, which the language and C ask of every caller. Of every other call
 -- nothing is asked: it answers by any numbers.
 -- A reader has to believe this file.
-use Rattle.std.specs.Prelude.{ℕ, ◌<◌, ◌^◌, ◌≡◌, List, [], ◌∷◌, length}
+use Rattle.std.specs.Prelude.{ℕ, ◌<◌, ◌^◌, ◌≡◌, List, [], ◌∷◌, length, Option, Some, None}
 use Rattle.byte_layout.specs.Stored.{Bytes}
 use Rattle.ultra_format.specs.Additions.{Addition}
 use Rattle.ultra_format.specs.Additions.{Addition.add_platform, Addition.add_kernel, Addition.add_map, Addition.add_module, Addition.add_command_line, Addition.add_framebuffer}
@@ -9,22 +9,18 @@ use Rattle.ultra_format.specs.declared.records.PlatformRecord.{PlatformRecord}
 use Rattle.ultra_format.specs.declared.records.KernelRecord.{KernelRecord}
 use Rattle.ultra_format.specs.declared.records.ModuleRecord.{ModuleRecord}
 use Rattle.ultra_format.specs.declared.records.FramebufferRecord.{FramebufferRecord}
-use Rattle.ultra_format.specs.declared.records.OptionalU64.{OptionalU64}
-use Rattle.ultra_format.specs.declared.records.OptionalU64.TheVariants as wide
-use Rattle.ultra_format.specs.declared.records.OptionalU8.{OptionalU8}
-use Rattle.ultra_format.specs.declared.records.OptionalU8.TheVariants as narrow
 use Rattle.demand_2.specs.Calls.{Members, Members.platform_members, Members.kernel_members, Members.map_members, Members.module_members}
 use Rattle.demand_2.specs.Calls.{Call, Call.write, Call.ask, Write.begin, Write.add, Write.add_members, Write.add_modules}
 use Rattle.demand_2.specs.CallsFromC.{AnyCall, in_rattle}
 
 -- ---- records, numbers and texts
-abbrev pub WideTyped : OptionalU64 → Type 0
-WideTyped (wide.Present n) = n < 2 ^ 64
-WideTyped wide.Absent = Unit {0}
+abbrev pub WideTyped : Option ℕ → Type 0
+WideTyped (Some n) = n < 2 ^ 64
+WideTyped None = Unit {0}
 
-abbrev pub NarrowTyped : OptionalU8 → Type 0
-NarrowTyped (narrow.Present n) = n < 2 ^ 8
-NarrowTyped narrow.Absent = Unit {0}
+abbrev pub NarrowTyped : Option ℕ → Type 0
+NarrowTyped (Some n) = n < 2 ^ 8
+NarrowTyped None = Unit {0}
 
 -- [u8; k]
 abbrev pub ArrayTyped : ℕ → List ℕ → Type 0

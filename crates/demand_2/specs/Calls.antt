@@ -6,12 +6,10 @@ use Rattle.std.specs.Prelude.{ℕ, Bool, true, List, length}
 use Rattle.byte_layout.specs.Stored.{bytes_at}
 use Rattle.ultra_format.specs.Contexts.{Body}
 use Rattle.ultra_format.specs.Additions.{Addition, platform_of, kernel_of, map_of, module_of, map_formed, guids_formed}
-use Rattle.refusals.specs.declared.Answer.{Answer}
-use Rattle.ultra_reading.specs.Reading.{reading_of}
-use Rattle.ultra_stepping.specs.Stepping.{step_of}
-use Rattle.ultra_reading.specs.declared.Reading.{Reading}
+use Rattle.refusals.specs.Answers.{Answer}
+use Rattle.ultra_reading.specs.Reading.{reading_of, Reading}
+use Rattle.ultra_stepping.specs.Stepping.{step_of, Step}
 use Rattle.ultra_stepping.specs.declared.cursor.Cursor.{Cursor}
-use Rattle.ultra_stepping.specs.declared.cursor.Step.{Step}
 use Rattle.lent_buffers.specs.declared.Part.{Part}
 use Rattle.ultra_questions.specs.declared.attributes.AttributeAnswer.{AttributeAnswer}
 use Rattle.ultra_locating.specs.Searching.{Found, Found.none, Found.found}

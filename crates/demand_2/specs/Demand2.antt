@@ -11,9 +11,9 @@
 -- its context, so that no text, map or output that a call is given beside it is a part of it (they are lists of their own); and
 -- arguments of adds are of their types (`AllTyped`, Arguments).
 -- A reader has to believe this file.
-use Rattle.std.specs.Prelude.{ℕ, zero, suc, ◌+◌, ◌/◌, ◌%◌, ◌≤◌, ◌<◌, ◌≡◌, ◌⊎◌, List, [], ◌∷◌, ◌++◌, length, get_or, take, eqb}
+use Rattle.std.specs.Prelude.{ℕ, zero, suc, ◌+◌, ◌/◌, ◌%◌, ◌≤◌, ◌<◌, ◌≡◌, ◌⊎◌, List, [], ◌∷◌, ◌++◌, length, get_or, take, eqb, Ok, Err}
 use Rattle.refusals.specs.Refusals.{SHORT, COUNT}
-use Rattle.refusals.specs.Answers.{refused, number_of}
+use Rattle.refusals.specs.Answers.{Answer, refused, number_of}
 use Rattle.ultra_format.specs.Contexts.{Context, count, used}
 use Rattle.byte_layout.specs.Fields.{cells, SilentAt}
 use Rattle.lent_buffers.specs.Room.{room_of}
@@ -23,10 +23,7 @@ use Rattle.ultra_format.specs.Decoding.{pick, stored_count}
 use Rattle.ultra_format.specs.Additions.{Addition, size_given, attribute_given, body_given}
 use Rattle.ultra_format.specs.Additions.{Addition.add_platform, Addition.add_kernel, Addition.add_map, Addition.add_module, Addition.add_command_line, Addition.add_framebuffer}
 use Rattle.refusals.specs.declared.Refusal.{Refusal}
-use Rattle.refusals.specs.declared.Answer.{Answer}
-use Rattle.refusals.specs.declared.Answer.TheVariants.{Done, Refused}
-use Rattle.ultra_reading.specs.Reading.{used_length, reading_of}
-use Rattle.ultra_reading.specs.declared.Reading.TheVariants.{Accepted}
+use Rattle.ultra_reading.specs.Reading.{used_length, reading_of, read_as}
 use Rattle.ultra_stepping.specs.declared.cursor.Cursor.{Cursor}
 use Rattle.ultra_acceptance.specs.Acceptance.{HoldsContext, version_in}
 use Rattle.ultra_acceptance.specs.Steps.{StepsThrough}
@@ -51,7 +48,7 @@ pub record Follows (b : List ℕ) (gs : List Addition) : Type 0 where
   pub bytes : take (used (context_given gs)) b ≡ written (context_given gs)
   -- its count and its used length are the list's
   pub counted : stored_count b ≡ length gs
-  pub used_is : used_length 0 b ≡ Done (used (context_given gs))
+  pub used_is : used_length 0 b ≡ Ok (used (context_given gs))
   -- the list meets the rules, all but the lower limit of the count, in the buffer's room, and opens the buffer
   pub held : HoldsContext 0 b (context_given gs)
 
@@ -83,7 +80,7 @@ record_at b i = record_back (attribute_answer b i) (part_at b i)
 
 -- "With two or more, it reads back as the records given"
 pub record ReadsBack (b : List ℕ) (gs : List Addition) : Type 0 where
-  pub whole : reading_of b ≡ Accepted (version_in (context_given gs)) (used (context_given gs))
+  pub whole : reading_of b ≡ read_as (version_in (context_given gs)) (used (context_given gs))
   pub each : (i : ℕ) → i < length gs → record_at b i ≡ get_or gs i (add_command_line []) ∷ []
   pub past : (i : ℕ) → length gs ≤ i → attribute_answer b i ≡ unanswered (refused COUNT (used (context_given gs)))
 
@@ -140,7 +137,7 @@ with_modules c ms = record { major = c.major; minor = c.minor; attributes = c.at
 abbrev pub AsRecord : List ℕ → Members → Type 0
 AsRecord b m =
     let g = giving (members_body m) in
-    ((r : Refusal) × (run_write (add_members m) b ≡ (answer (Refused r), b))) ⊎ (AdditionTyped g × (body_given g ≡ members_body m) × (run_write (add_members m) b ≡ run_write (add g) b))
+    ((r : Refusal) × (run_write (add_members m) b ≡ (answer (Err r), b))) ⊎ (AdditionTyped g × (body_given g ≡ members_body m) × (run_write (add_members m) b ≡ run_write (add g) b))
 
 -- ---- the demand
 -- b is a buffer whose beginning is accepted; ks are any calls after it
@@ -154,20 +151,20 @@ module _ (b : List ℕ) (ks : List AnyCall) where
 pub record Demand2 : Type 0 where
   -- "a first accepted beginning": it is refused exactly where there is no room for the head, and then changes nothing; else nothing past
   -- the head
-  pub begins : (b : List ℕ) → 8 ≤ length b → ((begun b).0 ≡ Done 8) × ((i : ℕ) → 8 ≤ i → get_or (begun b).1 i 0 ≡ get_or b i 0)
+  pub begins : (b : List ℕ) → 8 ≤ length b → ((begun b).0 ≡ Ok 8) × ((i : ℕ) → 8 ≤ i → get_or (begun b).1 i 0 ≡ get_or b i 0)
   pub begins_not : (b : List ℕ) → length b < 8 → begun b ≡ (refused SHORT 0, b)
   -- "over any sequence of calls": after every call the buffer is as the list says. A beginning empties the list, an add that is not
   -- refused appends to it, several modules append those that are added, any other call leaves it (list_after)
-  pub follows : (b : List ℕ) (ks : List AnyCall) → (begun b).0 ≡ Done 8 → AllTyped ks → Follows (buffer_now b ks) (list_now b ks)
-  pub same_length : (b : List ℕ) (ks : List AnyCall) → (begun b).0 ≡ Done 8 → AllTyped ks → length (buffer_now b ks) ≡ length b
+  pub follows : (b : List ℕ) (ks : List AnyCall) → (begun b).0 ≡ Ok 8 → AllTyped ks → Follows (buffer_now b ks) (list_now b ks)
+  pub same_length : (b : List ℕ) (ks : List AnyCall) → (begun b).0 ≡ Ok 8 → AllTyped ks → length (buffer_now b ks) ≡ length b
   -- and every answer is the one that the list determines; of several modules where they are of their types, since a later one is answered
   -- after those before it were stored
-  pub answers : (b : List ℕ) (ks : List AnyCall) (k : AnyCall) → (begun b).0 ≡ Done 8 → AllTyped ks
+  pub answers : (b : List ℕ) (ks : List AnyCall) (k : AnyCall) → (begun b).0 ≡ Ok 8 → AllTyped ks
       → ((ms : List ModuleRecord) → in_rattle k ≡ write (add_modules ms) → ModulesTyped ms)
       → (Undetermined (room_of b) (context_given (list_now b ks)) (in_rattle k) → ⊥)
       → (run_any k (buffer_now b ks)).0 ≡ any_reply (room_of b) k (list_now b ks)
   -- steps by the list's own cursors go through it
-  pub steps : (b : List ℕ) (ks : List AnyCall) → (begun b).0 ≡ Done 8 → AllTyped ks → 2 ≤ length (list_now b ks)
+  pub steps : (b : List ℕ) (ks : List AnyCall) → (begun b).0 ≡ Ok 8 → AllTyped ks → 2 ≤ length (list_now b ks)
       → StepsThrough (buffer_now b ks) (context_given (list_now b ks))
   -- "called from the loader, which is written in C": a call from C does what the call from Rattle does, and its answer is that call's as
   -- one number
@@ -184,12 +181,12 @@ pub record Demand2 : Type 0 where
       → ((modules_added b ms).1 ≡ after (adds (modules_given (take (modules_added b ms).0.added ms))) b)
       × AllSucceeded (replies (adds (modules_given (take (modules_added b ms).0.added ms))) b)
   -- beyond the order: adding to any buffer that holds a context, also one that another writer began, appends exactly the attribute given
-  pub appends : (b : List ℕ) (c : Context) (g : Addition) (n : ℕ) → HoldsContext 0 b c → AdditionTyped g → (added b g).0 ≡ Done n
+  pub appends : (b : List ℕ) (c : Context) (g : Addition) (n : ℕ) → HoldsContext 0 b c → AdditionTyped g → (added b g).0 ≡ Ok n
       → Appended b c g (added b g).1 n
   -- likewise several modules: the context then has those that were added
   pub appends_modules : (b : List ℕ) (c : Context) (ms : List ModuleRecord) → HoldsContext 0 b c → ModulesTyped ms
       → HoldsContext 0 (modules_added b ms).1 (with_modules c (take (modules_added b ms).0.added ms))
   -- "With two or more, it reads back as the records given"
-  pub reads_back : (b : List ℕ) (ks : List AnyCall) → (begun b).0 ≡ Done 8 → AllTyped ks → 2 ≤ length (list_now b ks) → ReadsBack (buffer_now b ks) (list_now b ks)
+  pub reads_back : (b : List ℕ) (ks : List AnyCall) → (begun b).0 ≡ Ok 8 → AllTyped ks → 2 ≤ length (list_now b ks) → ReadsBack (buffer_now b ks) (list_now b ks)
   -- "a plain context, built again from its reading, has the same bytes": into any buffer with room for it, and nothing is refused
   pub rebuilds : (b d : List ℕ) (c : Context) → HoldsContext 2 b c → Plain b c → used c ≤ room_of d → Rebuilt b d c

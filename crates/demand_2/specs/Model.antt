@@ -1,11 +1,11 @@
 -- The model of demand 2: what each call does to a list and answers by it. The list has what was given to the adds, in their order, and
 -- nothing else is kept; the room of the buffer is a constant.
 -- A reader has to believe this file.
-use Rattle.std.specs.Prelude.{ℕ, zero, suc, ◌+◌, ◌%◌, Bool, ◌&&◌, List, [], ◌∷◌, ◌++◌, length, leb, ltb, eqb}
+use Rattle.std.specs.Prelude.{ℕ, zero, suc, ◌+◌, ◌%◌, Bool, ◌&&◌, List, [], ◌∷◌, ◌++◌, length, leb, ltb, eqb, Ok, Err}
 use Rattle.words.specs.Words.{u32_at, numbers_in}
 use Rattle.key_value_text.specs.Lines.{lines_bytes}
 use Rattle.refusals.specs.Refusals.{unless, MISSING, HEADER}
-use Rattle.refusals.specs.Answers.{refusal, refused}
+use Rattle.refusals.specs.Answers.{Answer, refusal, refused}
 use Rattle.ultra_format.specs.Contexts.{Body, type_of, Attribute, Context, count, attribute_at, body_at, start_in, used}
 use Rattle.ultra_format.specs.Contexts.{Body.platform, Body.kernel, Body.memory_map, Body.module_info, Body.command_line, Body.framebuffer, Body.other}
 use Rattle.ultra_format.specs.Layouts.{written}
@@ -15,15 +15,10 @@ use Rattle.ultra_format.specs.Records.{platform_record, kernel_record, module_re
 use Rattle.ultra_format.specs.Additions.{Addition, type_given, attribute_given, body_given, formed, given_check}
 use Rattle.ultra_format.specs.Additions.{Addition.add_platform, Addition.add_kernel, Addition.add_map, Addition.add_module, Addition.add_command_line, Addition.add_framebuffer}
 use Rattle.refusals.specs.declared.Refusal.{Refusal}
-use Rattle.refusals.specs.declared.Answer.{Answer}
-use Rattle.refusals.specs.declared.Answer.TheVariants.{Done, Refused}
 use Rattle.ultra_format.specs.declared.records.ModuleRecord.{ModuleRecord}
 use Rattle.ultra_stepping.specs.Checks.{bounds_check}
-use Rattle.ultra_stepping.specs.Stepping.{cursor_at, header_at, step_refused_at}
-use Rattle.ultra_reading.specs.declared.Reading.TheVariants as readings
+use Rattle.ultra_stepping.specs.Stepping.{cursor_at, header_at, step_refused_at, Step, steps_to, at_end}
 use Rattle.ultra_stepping.specs.declared.cursor.Cursor.{Cursor}
-use Rattle.ultra_stepping.specs.declared.cursor.Step.{Step}
-use Rattle.ultra_stepping.specs.declared.cursor.Step.TheVariants as stepping
 use Rattle.ultra_acceptance.specs.Acceptance.{version_in}
 use Rattle.lent_buffers.specs.LentParts.{no_part}
 use Rattle.ultra_locating.specs.Searching.{Found, Found.none, Found.found}
@@ -43,6 +38,7 @@ use Rattle.demand_2.specs.Calls.{Call, Call.write, Call.ask, Reply}
 use Rattle.demand_2.specs.Calls.{Reply.answer, Reply.several, Reply.reading, Reply.stepped, Reply.attribute, Reply.located, Reply.lent, Reply.board_text, Reply.copied, Reply.number}
 use Rattle.demand_2.specs.CallsFromC.{asked, reply_crossed, AnyCall, in_rattle}
 use Rattle.demand_2.specs.CallsFromC.{AnyCall.from_rattle, AnyCall.from_c}
+use Rattle.ultra_reading.specs.Reading.{read_as}
 
 -- ---- the context that the list is
 unfoldable pub attributes_given : List Addition → List Attribute
@@ -83,7 +79,7 @@ appended (suc n) gs g = gs
 
 -- the used length of the list with it, or the refusal, "with the used length as offset"
 abbrev pub add_answer : ℕ → List Addition → Addition → Answer
-add_answer zero gs g = Done (used (context_given (gs ++ (g ∷ []))))
+add_answer zero gs g = Ok (used (context_given (gs ++ (g ∷ []))))
 add_answer (suc n) gs g = refused (suc n) (used (context_given gs))
 
 -- several modules, in turn up to the first that is refused: what is answered, and the list afterwards
@@ -91,7 +87,7 @@ abbrev pub module_listed : ℕ → List Addition → ModuleRecord → Answer × 
 module_listed room gs m = let n = refusal_of room gs (add_module m) in (add_answer n gs (add_module m), appended n gs (add_module m))
 
 unfoldable pub modules_listed : ℕ → List Addition → List ModuleRecord → ModulesAdded × List Addition
-modules_listed room gs ms = in_turn (module_listed room) (Done 0) 0 gs ms
+modules_listed room gs ms = in_turn (module_listed room) (Ok 0) 0 gs ms
 
 -- ---- what a call does to the list
 abbrev pub list_after : ℕ → Call → List Addition → List Addition
@@ -110,10 +106,10 @@ list_after_all room (k ∷ ks) gs = list_after_all room ks (list_after room (in_
 abbrev pub step_within : ℕ → List ℕ → Cursor → Step
 step_within room w k =
     step_refused_at (unless (leb 8 k.offset && eqb (k.offset % 8) 0) HEADER (bounds_check w room k.offset)) k.index k.offset
-    (stepping.Attribute (header_at w k.offset) (cursor_at (k.index + 1) (k.offset + u32_at w (k.offset + 4))))
+    (steps_to (header_at w k.offset) (cursor_at (k.index + 1) (k.offset + u32_at w (k.offset + 4))))
 
 abbrev pub step_in : ℕ → Context → Cursor → Step
-step_in room c k = pick (leb (count c) k.index) stepping.End (step_within room (written c) k)
+step_in room c k = pick (leb (count c) k.index) at_end (step_within room (written c) k)
 
 -- the part of the attribute at an index
 abbrev pub part_in : Context → ℕ → Reply
@@ -126,16 +122,16 @@ line_reply board (found o a) = lent (body_part o a.body) (part_bytes a.body)
 
 -- what a question answers: first of a buffer that holds c, second of one that reading refuses with r
 unfoldable pub replies_in : ℕ → Context → Refusal → Question → Reply × Reply
-replies_in room c r read = (reading (readings.Accepted (version_in c) (used c)), reading (readings.Refused r))
-replies_in room c r (step k) = (stepped (step_in room c k), stepped (stepping.Refused r))
-replies_in room c r (ask_attribute i) = (attribute (with_members (attribute_at c i) (start_or_count c i)), attribute (unanswered (Refused r)))
-replies_in room c r (ask_start i) = (answer (start_or_count c i), answer (Refused r))
+replies_in room c r read = (reading (read_as (version_in c) (used c)), reading (Err r))
+replies_in room c r (step k) = (stepped (step_in room c k), stepped (Err r))
+replies_in room c r (ask_attribute i) = (attribute (with_members (attribute_at c i) (start_or_count c i)), attribute (unanswered (Err r)))
+replies_in room c r (ask_start i) = (answer (start_or_count c i), answer (Err r))
 replies_in room c r (ask_part i) = (part_in c i, lent no_part [])
-replies_in room c r (copy_map out) = (copied (map_in c out), copied (Refused r, out))
-replies_in room c r (copy_map_bytes out) = (copied (over_bytes out (map_in c (numbers_in out))), copied (over_bytes out (Refused r, numbers_in out)))
+replies_in room c r (copy_map out) = (copied (map_in c out), copied (Err r, out))
+replies_in room c r (copy_map_bytes out) = (copied (over_bytes out (map_in c (numbers_in out))), copied (over_bytes out (Err r, numbers_in out)))
 replies_in room c r (ask_line board) = (line_reply board (line_in c), board_text board)
 replies_in room c r locate_line = (located (command_line_in c), located no_part)
-replies_in room c r (ask_module a) = (answer (module_in c a), answer (Refused r))
+replies_in room c r (ask_module a) = (answer (module_in c a), answer (Err r))
 replies_in room c r (list out) = (copied (text_listed (lines_bytes (context_lines c)) out), copied (text_listed (lines_bytes (refused_lines r)) out))
 replies_in room c r ask_listing_length = (number (length (lines_bytes (context_lines c))), number (length (lines_bytes (refused_lines r))))
 
@@ -146,7 +142,7 @@ too_few = refusal MISSING 0
 
 unfoldable pub reply_to : ℕ → Call → List Addition → Reply
 reply_to room (ask q) gs = let c = context_given gs in let r = replies_in room c too_few q in pick (leb 2 (count c)) r.0 r.1
-reply_to room (write begin) gs = answer (Done (used (context_given [])))
+reply_to room (write begin) gs = answer (Ok (used (context_given [])))
 reply_to room (write (add g)) gs = answer (add_answer (refusal_of room gs g) gs g)
 reply_to room (write (add_members m)) gs =
     answer (add_answer (members_refusal room gs (members_formed m) (members_body m)) gs (giving (members_body m)))

@@ -4,10 +4,10 @@
 -- second beginning among them, build the same 640 bytes; the widest arguments are of their types; two attributes are enough; a context
 -- that another writer began is extended. Each is proved from the demand itself, in proofs/Witness.antt: `witnessed`.
 -- A reader has to believe this file.
-use Rattle.std.specs.Prelude.{ℕ, ◌+◌, ◌≤◌, ◌<◌, ◌⊎◌, true, false, ◌≡◌, List, [], ◌∷◌, ◌++◌, length, take, get_or, replicate}
+use Rattle.std.specs.Prelude.{ℕ, ◌+◌, ◌≤◌, ◌<◌, ◌⊎◌, true, false, ◌≡◌, List, [], ◌∷◌, ◌++◌, length, take, get_or, replicate, Ok, Some, None}
 use Rattle.std.specs.Borrow.{Bor}
 use Rattle.refusals.specs.Refusals.{SHORT, FORM, VALUE, ROOM}
-use Rattle.refusals.specs.Answers.{refused, number_of}
+use Rattle.refusals.specs.Answers.{Answer, refused, number_of}
 use Rattle.ultra_format.specs.Decoding.{context_of}
 use Rattle.ultra_format.specs.Contexts.{Context}
 use Rattle.ultra_format.specs.Plain.{Plain}
@@ -16,12 +16,8 @@ use Rattle.lent_buffers.specs.LentParts.{part}
 use Rattle.ultra_format.specs.Examples.{zeros, junk, listed, listed_bytes, six_types, six_types_bytes}
 use Rattle.ultra_format.specs.Additions.{Addition, body_given}
 use Rattle.ultra_format.specs.Additions.{Addition.add_platform, Addition.add_kernel, Addition.add_map, Addition.add_module, Addition.add_command_line, Addition.add_framebuffer}
-use Rattle.refusals.specs.declared.Answer.{Answer}
-use Rattle.refusals.specs.declared.Answer.TheVariants.{Done}
 use Rattle.ultra_format.specs.declared.records.PlatformRecord.{PlatformRecord}
 use Rattle.ultra_format.specs.declared.records.ModuleRecord.{ModuleRecord}
-use Rattle.ultra_format.specs.declared.records.OptionalU64.TheVariants as wide
-use Rattle.ultra_format.specs.declared.records.OptionalU8.TheVariants as narrow
 use Rattle.ultra_stepping.specs.Stepping.{cursor_at}
 use Rattle.ultra_building.specs.Building.{begun}
 use Rattle.ultra_adding.specs.Adding.{added}
@@ -53,10 +49,10 @@ listed_additions =
       loader_minor = 4;
       name = 102 ∷ 114 ∷ 111 ∷ 115 ∷ 116 ∷ zeros 27;
       rsdp = 917504;
-      higher_half_base = wide.Present 18446603336221196288;
-      depth = narrow.Present 4;
-      dtb = wide.Present 0;
-      smbios = wide.Present 0;
+      higher_half_base = Some 18446603336221196288;
+      depth = Some 4;
+      dtb = Some 0;
+      smbios = Some 0;
     })
     ∷ add_kernel (record {
       physical_base = 2097152;
@@ -158,10 +154,10 @@ widest_calls =
       loader_minor = 65535;
       name = ones 32;
       rsdp = 18446744073709551615;
-      higher_half_base = wide.Present 18446744073709551615;
-      depth = narrow.Present 255;
-      dtb = wide.Present 18446744073709551615;
-      smbios = wide.Absent;
+      higher_half_base = Some 18446744073709551615;
+      depth = Some 255;
+      dtb = Some 18446744073709551615;
+      smbios = None;
     }))))
     ∷ from_rattle (write (add (add_kernel (record {
       physical_base = 18446744073709551615;
@@ -194,10 +190,10 @@ absent_platform =
       loader_minor = 0;
       name = zeros 32;
       rsdp = 0;
-      higher_half_base = wide.Absent;
-      depth = narrow.Absent;
-      dtb = wide.Absent;
-      smbios = wide.Absent;
+      higher_half_base = None;
+      depth = None;
+      dtb = None;
+      smbios = None;
     }
 
 -- ---- the witness
@@ -256,12 +252,12 @@ pub record TwoAreEnough : Type 0 where
 
 -- what is answered of calls that write, other than several modules: of them nothing is asked, whichever they are
 pub record WritesAnswered : Type 0 where
-  pub every : (b : List ℕ) (ks : List AnyCall) (w : Write) → (begun b).0 ≡ Done 8 → AllTyped ks
+  pub every : (b : List ℕ) (ks : List AnyCall) (w : Write) → (begun b).0 ≡ Ok 8 → AllTyped ks
       → ((ms : List ModuleRecord) → w ≡ add_modules ms → ⊥)
       → (run_any (from_rattle (write w)) (buffer_now b ks)).0 ≡ reply_to (room_of b) (write w) (list_now b ks)
-  pub begun : (b : List ℕ) → length b ≡ 104 → (run_any (from_rattle (write begin)) (buffer_now b (adds one))).0 ≡ answer (Done 8)
+  pub begun : (b : List ℕ) → length b ≡ 104 → (run_any (from_rattle (write begin)) (buffer_now b (adds one))).0 ≡ answer (Ok 8)
   pub added : (b : List ℕ) → length b ≡ 96
-      → (run_any (from_rattle (write (add (add_platform every_platform_record.platform)))) (buffer_now b [])).0 ≡ answer (Done 96)
+      → (run_any (from_rattle (write (add (add_platform every_platform_record.platform)))) (buffer_now b [])).0 ≡ answer (Ok 96)
   pub no_room : (b : List ℕ) → length b ≡ 95
       → (run_any (from_rattle (write (add (add_platform every_platform_record.platform)))) (buffer_now b [])).0 ≡ answer (refused ROOM 8)
   pub members : (b : List ℕ) → length b ≡ 96
@@ -284,7 +280,7 @@ adding_modules ms = from_rattle (write (add_modules ms))
 
 -- after a platform and a kernel, which use 432 bytes; a module has 96
 pub record SeveralModules : Type 0 where
-  pub all : (b : List ℕ) → length b ≡ 720 → (run_any (adding_modules three_modules) (buffer_now b (adds two))).0 ≡ several (answer_and_count (Done 720) 3)
+  pub all : (b : List ℕ) → length b ≡ 720 → (run_any (adding_modules three_modules) (buffer_now b (adds two))).0 ≡ several (answer_and_count (Ok 720) 3)
   -- in a byte less, and with a refused module, two are added; the offset counts them
   pub no_room : (b : List ℕ) → length b ≡ 719
       → (run_any (adding_modules three_modules) (buffer_now b (adds two))).0 ≡ several (answer_and_count (refused ROOM 624) 2)
@@ -296,7 +292,7 @@ pub record SeveralModules : Type 0 where
   -- where none is added, any buffer is as it was
   pub unchanged : (b : List ℕ) (ms : List ModuleRecord) → (modules_added b ms).0.added ≡ 0 → (run_any (adding_modules ms) b).1 ≡ b
   -- with no modules, on any buffer
-  pub none : (b : List ℕ) → run_any (adding_modules []) b ≡ (several (answer_and_count (Done 0) 0), b)
+  pub none : (b : List ℕ) → run_any (adding_modules []) b ≡ (several (answer_and_count (Ok 0) 0), b)
   -- in any buffer that holds a context, and of any number of modules
   pub appended : (b : List ℕ) (c : Context) (n : ℕ) → HoldsContext 0 b c → let ms = replicate n (a_module 1) in
       HoldsContext 0 (modules_added b ms).1 (with_modules c (take (modules_added b ms).0.added ms))
@@ -346,8 +342,8 @@ pub record Witnessed : Type 0 where
   pub modules : SeveralModules
   pub boards : BoardTexts
   -- whatever was built is plain
-  pub plain : (b : List ℕ) (ks : List AnyCall) → (begun b).0 ≡ Done 8 → AllTyped ks → Plain (buffer_now b ks) (context_given (list_now b ks))
-  pub head : (b : List ℕ) → length b ≡ 8 → begun b ≡ (Done 8, 1 ∷ zeros 7)
+  pub plain : (b : List ℕ) (ks : List AnyCall) → (begun b).0 ≡ Ok 8 → AllTyped ks → Plain (buffer_now b ks) (context_given (list_now b ks))
+  pub head : (b : List ℕ) → length b ≡ 8 → begun b ≡ (Ok 8, 1 ∷ zeros 7)
   pub headless : (b : List ℕ) → length b ≡ 7 → begun b ≡ (refused SHORT 0, b)
   pub other : Appended other_head (context_of other_head) (add_platform every_platform_record.platform) (added other_head (add_platform every_platform_record.platform)).1 96
   -- the bytes before the count, and those after the new attribute, stay

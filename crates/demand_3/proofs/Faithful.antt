@@ -1,5 +1,6 @@
 -- The reading determines the list: each attribute is found back in the answer at its index and in the bytes of its part, and the count
 -- in where answers end.
+use Rattle.std.specs.Prelude.{Ok, Err}
 use Prim.Native.Nat.{ℕ, ◌/◌, ◌≤◌, ◌<◌}
 use mathlib.Core.Path.{◌≡◌, refl, sym, ap, ◌∙◌}
 use mathlib.Core.Bool.{Bool, true, false}
@@ -24,13 +25,13 @@ use Rattle.ultra_format.proofs.Bodies.{entries_written, length_written}
 use Rattle.ultra_format.proofs.Attributes.{attribute, body_fits}
 use Rattle.ultra_format.proofs.Given.{platform_given_law, kernel_given_law, module_given_law}
 use Rattle.ultra_reading.specs.declared.Version.{Version}
-use Rattle.ultra_reading.specs.declared.Reading.TheVariants.{Accepted}
 use Rattle.ultra_acceptance.specs.Acceptance.{version_in}
 use Rattle.ultra_questions.specs.declared.attributes.AttributeAnswer.{AttributeAnswer}
 use Rattle.ultra_questions.specs.Parts.{part_bytes}
 use Rattle.ultra_questions.specs.AttributeQuestion.{answered, unanswered, attribute_answer, PartHandedBack}
 use Rattle.ultra_questions.proofs.AttributeLaws.{part_inside}
 use Rattle.demand_3.specs.Demand3.{part_at, ReadingIs, SameReading}
+use Rattle.ultra_reading.specs.Reading.{Reading, read_as}
 
 -- ---- one body
 -- the body that an answer says, by its type, its records and the bytes of its part
@@ -58,8 +59,12 @@ said_whole s (other t) u f =
     rw (ne_eqb t 1 (λ e. omega arith), ne_eqb t 2 (λ e. omega arith), ne_eqb t 3 (λ e. omega arith), ne_eqb t 4 (λ e. omega arith), ne_eqb t 5 (λ e. omega arith), ne_eqb t 6 (λ e. omega arith))
 
 -- ---- the version, and where answers end
-same_version : (v w : Version) (n m : ℕ) → Accepted v n ≡ Accepted w m → v ≡ w
-same_version v w n m e = cc
+abbrev version_read : Version → Reading → Version
+version_read d (Ok a) = a.version
+version_read d (Err r) = d
+
+same_version : (v w : Version) (n m : ℕ) → read_as v n ≡ read_as w m → v ≡ w
+same_version v w n m e = ap (version_read v) e
 
 -- an answer is no refusal
 no_refusal : (o n : ℕ) (a : Attribute) → answered o a ≡ unanswered (refused COUNT n) → ⊥

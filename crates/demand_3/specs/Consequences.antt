@@ -6,9 +6,8 @@ use Rattle.std.specs.Prelude.{ℕ, ◌<◌, min, ◌≡◌, List, ◌++◌, leng
 use Rattle.ultra_format.specs.Contexts.{Context, used}
 use Rattle.ultra_format.specs.Layouts.{Opens, Silent}
 use Rattle.ultra_format.specs.Rules.{Meets}
-use Rattle.ultra_reading.specs.Reading.{reading_of, reading_number}
+use Rattle.ultra_reading.specs.Reading.{reading_of, reading_number, read_as}
 use Rattle.ultra_reading.specs.declared.Version.{Version}
-use Rattle.ultra_reading.specs.declared.Reading.TheVariants.{Accepted}
 use Rattle.demand_3.specs.Demand3.{ReadingIs, SameReading}
 
 -- "some list meets the rules and its bytes open the buffer", "with at most its first 65,536 bytes considered"
@@ -21,7 +20,7 @@ StaysRead b d c = HeldIn d c × SameReading b d
 
 pub record Consequences : Type 0 where
   -- of a buffer of bytes that reading accepts: there is one list, with the used length that is answered, and the reading is that list
-  pub accepted : (b : List ℕ) (v : Version) (n : ℕ) → ((i : ℕ) → get_or b i 0 < 256) → reading_of b ≡ Accepted v n
+  pub accepted : (b : List ℕ) (v : Version) (n : ℕ) → ((i : ℕ) → get_or b i 0 < 256) → reading_of b ≡ read_as v n
       → (c : Context) × HeldIn b c × (n ≡ used c) × ReadingIs b c × ((d : Context) → HeldIn b d → d ≡ c)
   -- of one that it refuses: there is none
   pub refused : (b : List ℕ) (c : Context) → ((i : ℕ) → get_or b i 0 < 256) → (reading_number (reading_of b) ≡ 0 → ⊥) → HeldIn b c → ⊥

@@ -10,9 +10,8 @@ use Rattle.byte_layout.specs.Stored.{Bytes, bytes_at}
 use Rattle.refusals.specs.Refusals.{COUNT}
 use Rattle.refusals.specs.Answers.{refused}
 use Rattle.ultra_format.specs.Contexts.{Context, count, attribute_at, body_at, start_in, used}
-use Rattle.ultra_reading.specs.Reading.{reading_of, reading_number}
+use Rattle.ultra_reading.specs.Reading.{reading_of, reading_number, read_as}
 use Rattle.ultra_reading.specs.declared.Version.{Version}
-use Rattle.ultra_reading.specs.declared.Reading.TheVariants.{Accepted}
 use Rattle.ultra_acceptance.specs.Acceptance.{HoldsContext, DiffersInSilence, version_in}
 use Rattle.lent_buffers.specs.LentParts.{PartOf, LiesAt}
 use Rattle.ultra_questions.specs.Parts.{body_part, part_bytes}
@@ -26,7 +25,7 @@ part_at b i = let p = (attribute_answer b i).part in bytes_at b p.start p.length
 -- type, size and members (a fixed text with zeros after it, a part by its bytes) and, as start, 8 plus the sizes before it, and from
 -- the count on 3 is given."
 pub record ReadingIs (b : List ℕ) (c : Context) : Type 0 where
-  pub whole : reading_of b ≡ Accepted (version_in c) (used c)
+  pub whole : reading_of b ≡ read_as (version_in c) (used c)
   pub each : (i : ℕ) → i < count c → attribute_answer b i ≡ answered (start_in c.attributes i) (attribute_at c i)
   pub parts : (i : ℕ) → i < count c → part_at b i ≡ part_bytes (body_at c i)
   pub past : (i : ℕ) → count c ≤ i → attribute_answer b i ≡ unanswered (refused COUNT (used c))
@@ -50,7 +49,7 @@ pub record Demand3 : Type 0 where
   -- "Then there is no other such list and no other used length": whatever reading answers is the used length of any list that is held.
   -- 01: "a used length, that was made up falls to the uniqueness in demand 3"
   pub one_list : (b : List ℕ) (c d : Context) → HoldsContext 2 b c → HoldsContext 2 b d → c ≡ d
-  pub one_length : (b : List ℕ) (c : Context) (v : Version) (n : ℕ) → HoldsContext 2 b c → reading_of b ≡ Accepted v n → n ≡ used c
+  pub one_length : (b : List ℕ) (c : Context) (v : Version) (n : ℕ) → HoldsContext 2 b c → reading_of b ≡ read_as v n → n ≡ used c
   -- "and the reading is that list with that used length"
   pub reads : (b : List ℕ) (c : Context) → HoldsContext 2 b c → ReadingIs b c
   -- "Bytes that document 01 calls silent never change it: a second buffer of at least the used length, equal to the first up to there

@@ -4,23 +4,18 @@
 -- (Examples, of crate ultra_format, has the context and its bytes.) And a platform of 56 bytes is answered without late members. Proved
 -- in proofs/Witness.antt: `witnessed`.
 -- A reader has to believe this file.
-use Rattle.std.specs.Prelude.{ℕ, suc, ◌+◌, ◌≤◌, ◌<◌, ◌≡◌, List, [], ◌∷◌, ◌++◌, get_or}
+use Rattle.std.specs.Prelude.{ℕ, suc, ◌+◌, ◌≤◌, ◌<◌, ◌≡◌, List, [], ◌∷◌, ◌++◌, get_or, Ok, Some, None}
 use Rattle.std.specs.Borrow.{Bor}
 use Rattle.byte_layout.specs.Stored.{Bytes}
 use Rattle.refusals.specs.Refusals.{COUNT}
-use Rattle.refusals.specs.Answers.{refused}
+use Rattle.refusals.specs.Answers.{Answer, refused}
 use Rattle.ultra_format.specs.Contexts.{type_at, used}
 use Rattle.ultra_format.specs.Layouts.{Silent, written}
 use Rattle.ultra_format.specs.Decoding.{platform_at}
 use Rattle.ultra_format.specs.Records.{platform_record, blank_records}
 use Rattle.ultra_format.specs.Examples.{zeros, every_type, every_type_bytes}
-use Rattle.refusals.specs.declared.Answer.{Answer}
-use Rattle.refusals.specs.declared.Answer.TheVariants.{Done}
 use Rattle.ultra_format.specs.declared.records.Records.{Records}
-use Rattle.ultra_format.specs.declared.records.OptionalU64.TheVariants as wide
-use Rattle.ultra_format.specs.declared.records.OptionalU8.TheVariants as narrow
-use Rattle.ultra_reading.specs.Reading.{reading_of}
-use Rattle.ultra_reading.specs.declared.Reading.TheVariants.{Accepted}
+use Rattle.ultra_reading.specs.Reading.{reading_of, read_as}
 use Rattle.ultra_acceptance.specs.Acceptance.{HoldsContext, DiffersInSilence}
 use Rattle.lent_buffers.specs.declared.Part.{Part}
 use Rattle.ultra_questions.specs.declared.attributes.AttributeAnswer.{AttributeAnswer}
@@ -40,10 +35,10 @@ every_platform_record =
             loader_minor = 772;
             name = 98 ∷ zeros 31;
             rsdp = 578437695752307201;
-            higher_half_base = wide.Present 2314601843866147353;
-            depth = narrow.Present 5;
-            dtb = wide.Present 1157159078456920585;
-            smbios = wide.Present 1735880461161533969;
+            higher_half_base = Some 2314601843866147353;
+            depth = Some 5;
+            dtb = Some 1157159078456920585;
+            smbios = Some 1735880461161533969;
           };
       kernel = blank_records.kernel;
       «module» = blank_records.«module»;
@@ -99,10 +94,10 @@ nothing =
             loader_minor = 0;
             name = zeros 32;
             rsdp = 0;
-            higher_half_base = wide.Absent;
-            depth = narrow.Absent;
-            dtb = wide.Absent;
-            smbios = wide.Absent;
+            higher_half_base = None;
+            depth = None;
+            dtb = None;
+            smbios = None;
           };
       kernel =
           record {
@@ -122,7 +117,7 @@ nothing =
 
 -- ---- the answers: start, type, size, records, part
 abbrev pub the_answer : ℕ → ℕ → ℕ → Records → Part → AttributeAnswer
-the_answer o t s rs p = record { answer = Done o; header = record { kind = t; start = o; size = s }; records = rs; part = p }
+the_answer o t s rs p = record { answer = Ok o; header = record { kind = t; start = o; size = s }; records = rs; part = p }
 
 abbrev pub every_answers : List AttributeAnswer
 every_answers =
@@ -150,7 +145,7 @@ pub record Witnessed : Type 0 where
   pub holds : HoldsContext 2 every_type_bytes every_type
   -- types 1 to 7, in this order
   pub types : (i : ℕ) → i < 7 → type_at every_type i ≡ suc i
-  pub whole : reading_of every_type_bytes ≡ Accepted (record { major = 2; minor = 7 }) 688
+  pub whole : reading_of every_type_bytes ≡ read_as (record { major = 2; minor = 7 }) 688
   -- what stands beside a refusal, and in the records of other types
   pub nothing_beside : (r : Answer)
       → unanswered r ≡ record { answer = r; header = record { kind = 0; start = 0; size = 0 }; records = nothing; part = record { start = 0; length = 0 } }
@@ -181,4 +176,4 @@ pub record Witnessed : Type 0 where
   pub written_line : (lent s : Bor (List ℕ)) → s.now ≡ written every_type → PartHandedBack lent s 4 → lent.now ≡ every_line
   -- "Reading dtb from a 56-byte platform attribute, out of the kernel attribute behind it." looks right and is not
   pub short : (b : List ℕ) (o : ℕ) → let p = platform_record (platform_at b o 56) in
-      (p.higher_half_base ≡ wide.Absent) × (p.depth ≡ narrow.Absent) × (p.dtb ≡ wide.Absent) × (p.smbios ≡ wide.Absent)
+      (p.higher_half_base ≡ None) × (p.depth ≡ None) × (p.dtb ≡ None) × (p.smbios ≡ None)

@@ -1,5 +1,6 @@
 -- Proofs of the statements in specs/Acceptance.antt: the one context that a buffer can hold is the one that is decoded from it; it
 -- meets the rules just where every test passes.
+use Rattle.std.specs.Prelude.{Ok, Err}
 use Prim.Native.Nat.{ℕ, zero, suc, ◌≤◌, ◌<◌}
 use mathlib.Core.Path.{◌≡◌, refl, sym, ap, ◌∙◌, subst}
 use mathlib.Core.List.{List}
@@ -14,16 +15,13 @@ use Rattle.lent_buffers.specs.Room.{room_of}
 use Rattle.ultra_format.specs.Layouts.{layout, Opens}
 use Rattle.ultra_format.specs.Rules.{TypeSuits, AttributeMeets, Meets}
 use Rattle.ultra_format.specs.Decoding.{decoded, start, stored_type, stored_size, stored_count, stored_attribute, context_of}
-use Rattle.refusals.specs.Answers.{refused, or_refused}
+use Rattle.refusals.specs.Answers.{Answer, refused, or_refused}
 use Rattle.refusals.specs.declared.Refusal.{Refusal}
-use Rattle.refusals.specs.declared.Answer.{Answer}
-use Rattle.refusals.specs.declared.Answer.TheVariants.{Done, Refused}
 use Rattle.ultra_format.proofs.Bodies.{by_type}
 use Rattle.ultra_format.proofs.Attributes.{Sized, sized, width_attribute, width_layout, says_fits, says_opens}
 use Rattle.ultra_format.proofs.Decoded.{count_decoded, at_decoded, type_decoded, used_decoded, says_decoded, decoded_only}
 use Rattle.ultra_stepping.specs.Checks.{head_check}
-use Rattle.ultra_reading.specs.Reading.{check_of, attributes_answer, used_length, version_of, with_version, reading_of, reading_number}
-use Rattle.ultra_reading.specs.declared.Reading.TheVariants as reading
+use Rattle.ultra_reading.specs.Reading.{check_of, attributes_answer, used_length, version_of, with_version, reading_of, reading_number, read_as}
 use Rattle.ultra_acceptance.specs.Acceptance.{HoldsContext, AcceptsExactly, OneContext, SilentBytes, version_in, ReadsExactly, ReadsHeld}
 use Rattle.ultra_acceptance.proofs.Types.{fits, Ordered, ordered, no_check}
 use Rattle.ultra_acceptance.proofs.Walked.{Passes, Accepted, accepted, accepting, inside, ends}
@@ -91,7 +89,7 @@ module _ (fewest : ℕ) (b : List ℕ) (n : ℕ) (a : Accepted fewest b n) where
       positive x z = omega arith
 
 -- an accepted buffer's context meets the rules and opens it, with the used length that reading answers
-sound : (fewest : ℕ) (b : List ℕ) (n : ℕ) → Bytes b → used_length fewest b ≡ Done n → Meets fewest (room_of b) (context_of b) × Opens b (context_of b) × (n ≡ used (context_of b))
+sound : (fewest : ℕ) (b : List ℕ) (n : ℕ) → Bytes b → used_length fewest b ≡ Ok n → Meets fewest (room_of b) (context_of b) × Opens b (context_of b) × (n ≡ used (context_of b))
 sound fewest b n y e =
     let a = accepted fewest b n e in
     let m = decoded_meets fewest b n a y in
@@ -134,7 +132,7 @@ module _ (fewest : ℕ) (b : List ℕ) (m : Meets fewest (room_of b) (context_of
       }
 
 -- whatever meets the rules and opens a buffer is accepted, with its used length
-pub complete : (fewest : ℕ) (b : List ℕ) (c : Context) → Meets fewest (room_of b) c → Opens b c → used_length fewest b ≡ Done (used c)
+pub complete : (fewest : ℕ) (b : List ℕ) (c : Context) → Meets fewest (room_of b) c → Opens b c → used_length fewest b ≡ Ok (used c)
 complete fewest b c m o =
     let q = decoded_only fewest (room_of b) b c m o in
     rw q (accepting fewest b (used (context_of b)) (decoded_accepted fewest b (subst (Meets fewest (room_of b)) q m)))
@@ -161,7 +159,7 @@ rehoused m l h =
 -- ---- the statements
 pub accepts_exactly : AcceptsExactly
 accepts_exactly fewest b n y =
-    (λ e. let s = sound fewest b n y e in (context_of b, (s.0, s.1), s.2), λ r. complete fewest b r.0 r.1.0 r.1.1 ∙ ap Done (sym r.2))
+    (λ e. let s = sound fewest b n y e in (context_of b, (s.0, s.1), s.2), λ r. complete fewest b r.0 r.1.0 r.1.1 ∙ ap Ok (sym r.2))
 
 pub one_context : OneContext
 one_context fewest b c d g h = decoded_only fewest (room_of b) b c g.0 g.1 ∙ sym (decoded_only fewest (room_of b) b d h.0 h.1)
@@ -180,29 +178,29 @@ pub held_reading : ReadsHeld
 unfolding reading_of context_of
 held_reading b c h =
     let q = decoded_only 2 (room_of b) b c h.0 h.1 in
-    ap (with_version (version_of b)) (complete 2 b c h.0 h.1) ∙ ap (λ (d : Context). reading.Accepted (version_in d) (used c)) (sym q)
+    ap (with_version (version_of b)) (complete 2 b c h.0 h.1) ∙ ap (λ (d : Context). read_as (version_in d) (used c)) (sym q)
 
 -- a refusal's number is not 0
-refusal_number : (n o : ℕ) (rest : Answer) (r : Refusal) → (rest ≡ Refused r → r.number ≡ 0 → ⊥) → or_refused n o rest ≡ Refused r → r.number ≡ 0 → ⊥
+refusal_number : (n o : ℕ) (rest : Answer) (r : Refusal) → (rest ≡ Err r → r.number ≡ 0 → ⊥) → or_refused n o rest ≡ Err r → r.number ≡ 0 → ⊥
 refusal_number zero o rest r h e z = h e z
 refusal_number (suc n) o rest r h e z = let q : r.number ≡ suc n = number_of_law n o r e in omega arith
   where
-    number_of_law : (n o : ℕ) (r : Refusal) → refused (suc n) o ≡ Refused r → r.number ≡ suc n
+    number_of_law : (n o : ℕ) (r : Refusal) → refused (suc n) o ≡ Err r → r.number ≡ suc n
     number_of_law n o r e = cc
 
-attributes_number : (b : List ℕ) (room i n : ℕ) (r : Refusal) → attributes_answer b room i n ≡ Refused r → r.number ≡ 0 → ⊥
+attributes_number : (b : List ℕ) (room i n : ℕ) (r : Refusal) → attributes_answer b room i n ≡ Err r → r.number ≡ 0 → ⊥
 unfolding attributes_answer
 attributes_number b room i zero r e z = let w : ◌≡◌ {A = ℕ} 0 1 = cc in omega arith
 attributes_number b room i (suc n) r e z = refusal_number (check_of b room i) (start b i) _ r (attributes_number b room (suc i) n r) e z
 
-pub used_number : (fewest : ℕ) (b : List ℕ) (r : Refusal) → used_length fewest b ≡ Refused r → r.number ≡ 0 → ⊥
+pub used_number : (fewest : ℕ) (b : List ℕ) (r : Refusal) → used_length fewest b ≡ Err r → r.number ≡ 0 → ⊥
 unfolding used_length
 used_number fewest b r e z = refusal_number (head_check fewest b) 0 _ r (attributes_number b (room_of b) 0 (stored_count b) r) e z
 
 number_held : (b : List ℕ) → Bytes b → (a : Answer) → used_length 2 b ≡ a → reading_number (with_version (version_of b) a) ≡ 0
     → (c : Context) × HoldsContext 2 b c
-number_held b y (Done n) e z = let s = sound 2 b n y e in (context_of b, (s.0, s.1))
-number_held b y (Refused r) e z = absurd (used_number 2 b r e z)
+number_held b y (Ok n) e z = let s = sound 2 b n y e in (context_of b, (s.0, s.1))
+number_held b y (Err r) e z = absurd (used_number 2 b r e z)
 
 pub reads_exactly : ReadsExactly
 unfolding reading_of

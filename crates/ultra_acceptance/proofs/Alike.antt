@@ -1,5 +1,6 @@
 -- The law on which the statements rest in specs/Unread.antt: two buffers that are equal at the bytes that are not silent, up to the first
 -- refused attribute, are read alike.
+use Rattle.std.specs.Prelude.{Ok, Err}
 use Prim.Native.Nat.{ℕ, zero, suc, ◌+◌, ◌≤◌, ◌<◌}
 use mathlib.Core.Path.{◌≡◌, refl, sym, ap, ◌∙◌}
 use mathlib.Core.Bool.{Bool, true, false}
@@ -13,21 +14,18 @@ use borrow.Author.Tests.{leb-true, leb-false, ne_eqb}
 use Rattle.words.specs.Words.{u32_at}
 use Rattle.byte_layout.specs.Fields.{cells}
 use Rattle.refusals.specs.Refusals.{first_of}
-use Rattle.refusals.specs.Answers.{or_refused}
+use Rattle.refusals.specs.Answers.{Answer, or_refused}
 use Rattle.ultra_format.specs.Contexts.{Body}
 use Rattle.lent_buffers.specs.Room.{room_of}
 use Rattle.ultra_format.specs.Layouts.{body_fields}
 use Rattle.ultra_format.specs.Members.{present_if, size_suits, body_check}
 use Rattle.ultra_format.specs.Places.{place_check}
 use Rattle.ultra_format.specs.Decoding.{member_when, decoded, start, stored_count, types_before}
-use Rattle.refusals.specs.declared.Answer.{Answer}
-use Rattle.refusals.specs.declared.Answer.TheVariants.{Done, Refused}
 use Rattle.ultra_format.proofs.Bodies.{by_type, decoded_type, body_stored, body_only}
 use Rattle.ultra_format.proofs.Numbers.{length_entries}
 use Rattle.ultra_stepping.specs.Checks.{head_check, bounds_check}
 use Rattle.ultra_reading.specs.Reading.{Clear, attribute_check, check_of, attributes_answer, used_length, version_of, with_version, reading_of}
-use Rattle.ultra_stepping.specs.Stepping.{step_refused}
-use Rattle.ultra_stepping.specs.declared.cursor.Step.{Step}
+use Rattle.ultra_stepping.specs.Stepping.{step_refused, Step}
 use Rattle.ultra_stepping.proofs.HeadLaws.{head_holds, stop_short}
 use Rattle.ultra_reading.proofs.ReadingLaws.{accepted_head, attribute_in_bounds}
 use Rattle.ultra_stepping.proofs.BoundsLaws.{BoundsHold, bounds_hold, stop_header}
@@ -120,7 +118,7 @@ module _ (b d : List ℕ) (s : SameRead b d) where
   walk_alike : (i n : ℕ) → i + n ≡ stored_count b → Clear b (room_of b) i → start d i ≡ start b i → types_before d i ≡ types_before b i
       → attributes_answer d (room_of b) i n ≡ attributes_answer b (room_of b) i n
   unfolding attributes_answer start types_before
-  walk_alike i zero e c p q = ap Done p
+  walk_alike i zero e c p q = ap Ok p
   walk_alike i (suc n) e c p q =
       let head = s.header i (omega arith) c in
       let f : check_of d (room_of b) i ≡ check_of b (room_of b) i = rw (p, q) (check_alike b d (start b i) head (types_before b i) (s.body i (omega arith) c)) in
@@ -161,5 +159,5 @@ module _ (b d : List ℕ) (s : SameRead b d) where
   read_alike = record { reading = rw (used_alike 2) (go (used_length 2 b) refl); used = used_alike }
     where
       go : (a : Answer) → used_length 2 b ≡ a → with_version (version_of d) a ≡ with_version (version_of b) a
-      go (Done n) e = let h = (accepted_head 2 b n e).room in rw (major_alike h, minor_alike h)
-      go (Refused r) e = refl
+      go (Ok n) e = let h = (accepted_head 2 b n e).room in rw (major_alike h, minor_alike h)
+      go (Err r) e = refl

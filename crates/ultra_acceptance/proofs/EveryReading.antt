@@ -1,5 +1,6 @@
 -- Proofs of the statements in specs/EveryReading.antt, from the statements that they follow from, as parameters: no lemma of their proofs
 -- is cited.
+use Rattle.std.specs.Prelude.{Err, Some, None, Ok}
 use Prim.Native.Nat.{ℕ, zero, suc, ◌+◌, ◌≤◌, ◌<◌}
 use mathlib.Core.Path.{◌≡◌, refl, sym, ap, ◌∙◌, subst}
 use mathlib.Core.List.{List, ◌++◌}
@@ -15,14 +16,10 @@ use Rattle.ultra_format.specs.Layouts.{Silent}
 use Rattle.ultra_format.specs.Decoding.{start, context_of}
 use Rattle.ultra_format.specs.Examples.{every_type, every_type_bytes}
 use Rattle.ultra_format.proofs.Witness.{every_type_meets, every_type_opens}
-use Rattle.ultra_reading.specs.Reading.{reading_of, reading_number, reading_value}
-use Rattle.ultra_stepping.specs.Stepping.{step_of, step_number, step_value}
-use Rattle.ultra_reading.specs.declared.Reading.{Reading}
-use Rattle.ultra_reading.specs.declared.Reading.TheVariants as reading
+use Rattle.ultra_reading.specs.Reading.{reading_of, reading_number, reading_value, Reading, read_as}
+use Rattle.ultra_stepping.specs.Stepping.{step_of, step_number, step_value, Step, steps_to, at_end}
 use Rattle.ultra_stepping.specs.declared.cursor.Header.{Header}
 use Rattle.ultra_stepping.specs.declared.cursor.Cursor.{Cursor}
-use Rattle.ultra_stepping.specs.declared.cursor.Step.{Step}
-use Rattle.ultra_stepping.specs.declared.cursor.Step.TheVariants.{Attribute, End, Refused}
 use Rattle.ultra_acceptance.specs.Acceptance.{HoldsContext, version_in, ReadsExactly, ReadsHeld}
 use Rattle.ultra_acceptance.specs.Refusing.{Refuses, ReadingRefuses}
 use Rattle.ultra_acceptance.specs.Steps.{StepRefuses, StepEnds, StepGives, StepsExactly, SteppingThrough}
@@ -39,10 +36,10 @@ module _ (exactly : ReadsExactly) (held : ReadsHeld) (refuses : ReadingRefuses) 
   accepted_or_refused b y = go (reading_of b) refl
     where
       go : (a : Reading) → reading_of b ≡ a
-          → ((c : Context) × HoldsContext 2 b c × (reading_of b ≡ reading.Accepted (version_in c) (used c)))
-          ⊎ ((r : Refusal) × Refuses 2 b (reading_number (reading.Refused r)) (reading_value (reading.Refused r)) × (reading_of b ≡ reading.Refused r))
-      go (reading.Accepted v n) e = let s = (exactly b y).0 (ap reading_number e) in inl (s.0, s.1, held b s.0 s.1)
-      go (reading.Refused r) e = inr (r, (refuses b r).0 e, e)
+          → ((c : Context) × HoldsContext 2 b c × (reading_of b ≡ read_as (version_in c) (used c)))
+          ⊎ ((r : Refusal) × Refuses 2 b (reading_number (Err r)) (reading_value (Err r)) × (reading_of b ≡ Err r))
+      go (Ok a) e = let s = (exactly b y).0 (ap reading_number e) in inl (s.0, s.1, held b s.0 s.1)
+      go (Err r) e = inr (r, (refuses b r).0 e, e)
 
   one_of_them : OneReadings
   one_of_them b n o t =
@@ -52,7 +49,7 @@ module _ (exactly : ReadsExactly) (held : ReadsHeld) (refuses : ReadingRefuses) 
         only = λ m p u. let q = sym ((refuses b (refusal m p)).1 u) ∙ e in (ap reading_number q, ap reading_value q);
       }
     where
-      clash : (c : Context) → reading.Accepted (version_in c) (used c) ≡ reading.Refused (refusal n o) → ⊥
+      clash : (c : Context) → read_as (version_in c) (used c) ≡ Err (refusal n o) → ⊥
       clash c q = let z : ◌≡◌ {A = ℕ} 0 1 = cc in omega arith
 
 pub every_reading : EveryReading
@@ -67,11 +64,11 @@ module _ (exactly : StepsExactly) where
   one_of_three b k = go (step_of b k) refl
     where
       go : (a : Step) → step_of b k ≡ a
-          → ((r : Refusal) × StepRefuses b k (step_number (Refused r)) (step_value (Refused r)) × (step_of b k ≡ Refused r))
-          ⊎ ((StepEnds b k × (step_of b k ≡ End)) ⊎ ((h : Header) × (m : Cursor) × StepGives b k h m × (step_of b k ≡ Attribute h m)))
-      go (Refused r) e = inl (r, (exactly.refuses b k r).0 e, e)
-      go End e = inr (inl ((exactly.ends b k).0 e, e))
-      go (Attribute h m) e = inr (inr (h, m, (exactly.gives b k h m).0 e, e))
+          → ((r : Refusal) × StepRefuses b k (step_number (Err r)) (step_value (Err r)) × (step_of b k ≡ Err r))
+          ⊎ ((StepEnds b k × (step_of b k ≡ at_end)) ⊎ ((h : Header) × (m : Cursor) × StepGives b k h m × (step_of b k ≡ steps_to h m)))
+      go (Err r) e = inl (r, (exactly.refuses b k r).0 e, e)
+      go (Ok None) e = inr (inl ((exactly.ends b k).0 e, e))
+      go (Ok (Some s)) e = inr (inr (s.0, s.1, (exactly.gives b k s.0 s.1).0 e, e))
 
   only_one : OneSteps
   only_one b k =
@@ -82,16 +79,16 @@ module _ (exactly : StepsExactly) where
         not_both = λ h m t u. let q = sym ((exactly.ends b k).1 t) ∙ (exactly.gives b k h m).1 u in end_given h m q;
       }
     where
-      refused : (n o : ℕ) → StepRefuses b k n o → step_of b k ≡ Refused (refusal n o)
+      refused : (n o : ℕ) → StepRefuses b k n o → step_of b k ≡ Err (refusal n o)
       refused n o = (exactly.refuses b k (refusal n o)).1
 
-      refused_end : (n o : ℕ) → Refused (refusal n o) ≡ End → ⊥
+      refused_end : (n o : ℕ) → Err (refusal n o) ≡ at_end → ⊥
       refused_end n o q = let z : ◌≡◌ {A = ℕ} 0 1 = cc in omega arith
 
-      refused_given : (n o : ℕ) (h : Header) (m : Cursor) → Refused (refusal n o) ≡ Attribute h m → ⊥
+      refused_given : (n o : ℕ) (h : Header) (m : Cursor) → Err (refusal n o) ≡ steps_to h m → ⊥
       refused_given n o h m q = let z : ◌≡◌ {A = ℕ} 0 1 = cc in omega arith
 
-      end_given : (h : Header) (m : Cursor) → End ≡ Attribute h m → ⊥
+      end_given : (h : Header) (m : Cursor) → at_end ≡ steps_to h m → ⊥
       end_given h m q = let z : ◌≡◌ {A = ℕ} 0 1 = cc in omega arith
 
 pub every_step : EveryStep

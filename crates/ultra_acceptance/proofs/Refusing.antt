@@ -1,4 +1,5 @@
 -- Proofs of the statements in specs/Refusing.antt: a buffer that is to be refused is refused so, and one that is not is accepted.
+use Rattle.std.specs.Prelude.{Ok, Err}
 use Prim.Native.Nat.{ℕ, zero, suc, ◌-◌, ◌≤◌}
 use mathlib.Core.Path.{◌≡◌, refl, sym, ap, ◌∙◌}
 use mathlib.Core.List.{List}
@@ -6,15 +7,12 @@ use mathlib.Core.Logic.{◌⊎◌, ◌⊎◌.inl, ◌⊎◌.inr, ⊎_elim}
 use native.Mathlib.Omega.{arith}
 use native.Mathlib.Numerals.{add-one}
 use borrow.Author.Count.{below_none, below_more}
-use Rattle.refusals.specs.Answers.{refused, number_of, value_of}
+use Rattle.refusals.specs.Answers.{Answer, refused, number_of, value_of}
 use Rattle.lent_buffers.specs.Room.{room_of}
 use Rattle.ultra_format.specs.Decoding.{start, stored_count}
 use Rattle.refusals.specs.declared.Refusal.{Refusal}
-use Rattle.refusals.specs.declared.Answer.{Answer}
-use Rattle.refusals.specs.declared.Answer.TheVariants.{Done, Refused}
 use Rattle.ultra_reading.specs.Reading.{attributes_answer, used_length, version_of, with_version, reading_of}
 use Rattle.ultra_reading.specs.declared.Version.{Version}
-use Rattle.ultra_reading.specs.declared.Reading.TheVariants as reading
 use Rattle.ultra_reading.proofs.ReadingLaws.{head_refuses, head_goes_on, walk_refuse, walk_next, walk_end}
 use Rattle.ultra_acceptance.specs.Refusing.{HeadBreaks, NoneBreaks, ClearBefore, Refuses, RefusesExactly, ReadingRefuses}
 use Rattle.ultra_acceptance.specs.Refusing.{Refuses.head, Refuses.attribute}
@@ -51,10 +49,10 @@ module _ (fewest : ℕ) (b : List ℕ) where
       next : ClearBefore b k → ClearBefore b (suc k) ⊎ ToRefuse
       next c = ⊎_elim (λ s. inl (λ j g. below_more _ _ c s.1 j (omega arith))) (λ s. inr (_, _, attribute h k l c s.1)) (attribute_settled b k)
 
-  accepted_or : (used_length fewest b ≡ Done (start b (stored_count b))) ⊎ ToRefuse
+  accepted_or : (used_length fewest b ≡ Ok (start b (stored_count b))) ⊎ ToRefuse
   accepted_or = ⊎_elim (λ s. attributes s.1) (λ s. inr (_, _, head s.1)) (head_settled fewest b)
     where
-      attributes : NoneBreaks (HeadBreaks fewest b) → (used_length fewest b ≡ Done (start b (stored_count b))) ⊎ ToRefuse
+      attributes : NoneBreaks (HeadBreaks fewest b) → (used_length fewest b ≡ Ok (start b (stored_count b))) ⊎ ToRefuse
       attributes h =
           let n = stored_count b in
           ⊎_elim (λ c. inl (reaches n (omega arith) h c ∙ walk_end b (room_of b) n n refl)) inr (first_broken h n (omega arith))
@@ -73,9 +71,9 @@ module _ (fewest : ℕ) (b : List ℕ) where
 pub refuses_exactly : RefusesExactly
 refuses_exactly fewest b r = (to_refuse fewest b r.number r.offset, is_refused fewest b r.number r.offset)
 
-refused_alike : (v : Version) (a : Answer) (r : Refusal) → with_version v a ≡ reading.Refused r → a ≡ Refused r
-refused_alike v (Done n) r e = absurd (let z : ◌≡◌ {A = ℕ} 0 1 = cc in omega arith)
-refused_alike v (Refused q) r e = cc
+refused_alike : (v : Version) (a : Answer) (r : Refusal) → with_version v a ≡ Err r → a ≡ Err r
+refused_alike v (Ok n) r e = absurd (let z : ◌≡◌ {A = ℕ} 0 1 = cc in omega arith)
+refused_alike v (Err q) r e = cc
 
 pub reading_refuses : ReadingRefuses
 unfolding reading_of

@@ -1,5 +1,6 @@
 -- Proofs of the statements in specs/Steps.antt: a step that is to be refused, to end or to hand back an attribute does so, and every step
 -- is one of the three.
+use Rattle.std.specs.Prelude.{Err, Some, None, Ok}
 use Prim.Native.Nat.{ℕ, zero, suc, ◌+◌, ◌%◌, ◌≤◌, ◌<◌}
 use mathlib.Core.Path.{◌≡◌, refl, sym, ap, ap₂, ◌∙◌}
 use mathlib.Core.Bool.{Bool, true, false, ◌&&◌}
@@ -20,11 +21,9 @@ use Rattle.ultra_format.proofs.Attributes.{Says, sized, opens_says}
 use Rattle.refusals.proofs.Chains.{both_hold}
 use Rattle.ultra_format.proofs.Decoded.{starts}
 use Rattle.ultra_stepping.specs.Checks.{head_check}
-use Rattle.ultra_stepping.specs.Stepping.{cursor_check, cursor_at, header_at, step_of, step_number, step_value}
+use Rattle.ultra_stepping.specs.Stepping.{cursor_check, cursor_at, header_at, step_of, step_number, step_value, Step, steps_to, at_end}
 use Rattle.ultra_stepping.specs.declared.cursor.Header.{Header}
 use Rattle.ultra_stepping.specs.declared.cursor.Cursor.{Cursor}
-use Rattle.ultra_stepping.specs.declared.cursor.Step.{Step}
-use Rattle.ultra_stepping.specs.declared.cursor.Step.TheVariants.{Attribute, End, Refused}
 use Rattle.ultra_stepping.proofs.HeadLaws.{head_passes}
 use Rattle.ultra_stepping.proofs.BoundsLaws.{bounds_pass}
 use Rattle.ultra_stepping.proofs.StepLaws.{only_bounds, step_head, step_end, step_check, step_next}
@@ -37,6 +36,12 @@ use Rattle.ultra_acceptance.proofs.Walked.{Accepted, accepted}
 use Rattle.ultra_acceptance.proofs.Acceptance.{complete}
 use Rattle.ultra_acceptance.proofs.Least.{Chain, try, Settled, settled, settled_none, settled_least}
 use Rattle.ultra_acceptance.proofs.Rows.{head_settled, bounds_chain}
+
+-- what a step hands back, or `d` where it hands back nothing
+abbrev stepped_in : Header × Cursor → Step → Header × Cursor
+stepped_in d (Ok (Some s)) = s
+stepped_in d (Ok None) = d
+stepped_in d (Err r) = d
 
 -- ---- 5 to 8, at a cursor's offset
 module _ (b : List ℕ) (o : ℕ) where
@@ -81,28 +86,28 @@ module _ (b : List ℕ) (o : ℕ) where
 
 -- ---- a step
 -- no two of its three answers are one
-refused_ends : {P : Type 0} {s : Step} {r : Refusal} → s ≡ Refused r → s ≡ End → P
+refused_ends : {P : Type 0} {s : Step} {r : Refusal} → s ≡ Err r → s ≡ at_end → P
 refused_ends p q = absurd (let z : ◌≡◌ {A = ℕ} 0 1 = cc in omega arith)
 
-refused_gives : {P : Type 0} {s : Step} {r : Refusal} {h : Header} {m : Cursor} → s ≡ Refused r → s ≡ Attribute h m → P
+refused_gives : {P : Type 0} {s : Step} {r : Refusal} {h : Header} {m : Cursor} → s ≡ Err r → s ≡ steps_to h m → P
 refused_gives p q = absurd (let z : ◌≡◌ {A = ℕ} 0 1 = cc in omega arith)
 
-ends_gives : {P : Type 0} {s : Step} {h : Header} {m : Cursor} → s ≡ End → s ≡ Attribute h m → P
+ends_gives : {P : Type 0} {s : Step} {h : Header} {m : Cursor} → s ≡ at_end → s ≡ steps_to h m → P
 ends_gives p q = absurd (let z : ◌≡◌ {A = ℕ} 0 1 = cc in omega arith)
 
 module _ (b : List ℕ) (k : Cursor) where
   head_clear : NoneBreaks (HeadBreaks 2 b) → head_check 2 b ≡ 0
   head_clear = settled_none (head_settled 2 b)
 
-  is_refused : (n o : ℕ) → StepRefuses b k n o → step_of b k ≡ Refused (refusal n o)
+  is_refused : (n o : ℕ) → StepRefuses b k n o → step_of b k ≡ Err (refusal n o)
   is_refused n o (head l) =
       let s = settled_least (head_settled 2 b) l in
-      sym (step_head b k s.0) ∙ ap (λ (m : ℕ). Refused (refusal m 0)) s.1
+      sym (step_head b k s.0) ∙ ap (λ (m : ℕ). Err (refusal m 0)) s.1
   is_refused n o (cursor h l e) =
       let s = settled_least (cursor_settled b k.offset) e in
-      sym (step_check b k (head_clear h) l s.0) ∙ ap (λ (m : ℕ). Refused (refusal m k.offset)) s.1
+      sym (step_check b k (head_clear h) l s.0) ∙ ap (λ (m : ℕ). Err (refusal m k.offset)) s.1
 
-  is_end : StepEnds b k → step_of b k ≡ End
+  is_end : StepEnds b k → step_of b k ≡ at_end
   is_end s = sym (step_end b k (head_clear s.0) s.1)
 
   abbrev there : Header
@@ -111,7 +116,7 @@ module _ (b : List ℕ) (k : Cursor) where
   abbrev following : Cursor
   following = cursor_at (k.index + 1) (k.offset + u32_at b (k.offset + 4))
 
-  is_given : StepGives b k there following → step_of b k ≡ Attribute there following
+  is_given : StepGives b k there following → step_of b k ≡ steps_to there following
   is_given s = sym (step_next b k (head_clear s.head) s.below (settled_none (cursor_settled b k.offset) s.cursor))
 
   -- every step is one of the three
@@ -127,7 +132,7 @@ module _ (b : List ℕ) (k : Cursor) where
           let l = leb-false _ _ e in
           ⊎_elim (λ s. inr (inr (record { head = h; below = l; cursor = s.1; attribute = refl; next = refl }))) (λ s. inl (_, _, cursor h l s.1)) (cursor_settled b k.offset)
 
-  to_refuse : (n o : ℕ) → step_of b k ≡ Refused (refusal n o) → StepRefuses b k n o
+  to_refuse : (n o : ℕ) → step_of b k ≡ Err (refusal n o) → StepRefuses b k n o
   to_refuse n o e =
       ⊎_elim (λ r. same r.0 r.1 r.2) (⊎_elim (λ s. refused_ends e (is_end s)) (λ s. refused_gives e (is_given s))) outcome
     where
@@ -138,21 +143,29 @@ module _ (b : List ℕ) (k : Cursor) where
           let y : p ≡ o = ap step_value q in
           rw (x, y) at r
 
-  to_end : step_of b k ≡ End → StepEnds b k
+  to_end : step_of b k ≡ at_end → StepEnds b k
   to_end e = ⊎_elim (λ r. refused_ends (is_refused r.0 r.1 r.2) e) (⊎_elim (λ s. s) (λ s. ends_gives e (is_given s))) outcome
 
-  to_give : (h : Header) (m : Cursor) → step_of b k ≡ Attribute h m → StepGives b k h m
+  to_give : (h : Header) (m : Cursor) → step_of b k ≡ steps_to h m → StepGives b k h m
   to_give h m e =
       ⊎_elim (λ r. refused_gives (is_refused r.0 r.1 r.2) e)
       (⊎_elim (λ s. ends_gives (is_end s) e) (λ s. same s (sym e ∙ is_given s))) outcome
     where
-      same : StepGives b k there following → Attribute h m ≡ Attribute there following → StepGives b k h m
-      same s q = record { head = s.head; below = s.below; cursor = s.cursor; attribute = cc; next = cc }
+      same : StepGives b k there following → steps_to h m ≡ steps_to there following → StepGives b k h m
+      same s q =
+          let p = ap (stepped_in (h, m)) q in
+          record {
+            head = s.head;
+            below = s.below;
+            cursor = s.cursor;
+            attribute = ap (λ (t : Header × Cursor). t.0) p ∙ s.attribute;
+            next = ap (λ (t : Header × Cursor). t.1) p ∙ s.next;
+          }
 
-  gives : (h : Header) (m : Cursor) → StepGives b k h m → step_of b k ≡ Attribute h m
+  gives : (h : Header) (m : Cursor) → StepGives b k h m → step_of b k ≡ steps_to h m
   gives h m s =
       is_given (record { head = s.head; below = s.below; cursor = s.cursor; attribute = refl; next = refl })
-      ∙ ap₂ Attribute (sym s.attribute) (sym s.next)
+      ∙ ap₂ steps_to (sym s.attribute) (sym s.next)
 
 -- ---- the statements
 pub steps_exactly : StepsExactly
@@ -191,13 +204,13 @@ module _ (b : List ℕ) (c : Context) (held : HoldsContext 2 b c) where
       let p = (accepts.each i l).bounds in
       sym (bounds_pass b (room_of b) (start b i) p.header p.least p.eights p.within p.typed ∙ only_bounds b (start b i) (start_least i) (start_eights i (omega arith)))
 
-  step_stored : (i : ℕ) → i < stored_count b → step_of b (cursor_at i (start b i)) ≡ Attribute (header_at b (start b i)) (cursor_at (i + 1) (start b (i + 1)))
+  step_stored : (i : ℕ) → i < stored_count b → step_of b (cursor_at i (start b i)) ≡ steps_to (header_at b (start b i)) (cursor_at (i + 1) (start b (i + 1)))
   unfolding start
   step_stored i l =
       let e : start b (i + 1) ≡ start b i + u32_at b (start b i + 4) = ap (start b) (add-one i) in
       rw e (sym (step_next b (cursor_at i (start b i)) head_passed l (cursor_passed i l)))
 
-  step_listed : (i : ℕ) → i < count c → step_of b (cursor_of c i) ≡ Attribute (record { kind = type_at c i; start = start_in c.attributes i; size = size_at c i }) (cursor_of c (i + 1))
+  step_listed : (i : ℕ) → i < count c → step_of b (cursor_of c i) ≡ steps_to (record { kind = type_at c i; start = start_in c.attributes i; size = size_at c i }) (cursor_of c (i + 1))
   step_listed i h =
       let here = starts b c says i (omega arith) in
       let next = starts b c says (i + 1) (omega arith) in

@@ -1,4 +1,5 @@
 -- Proof of the statement in specs/UnreadExample.antt.
+use Rattle.std.specs.Prelude.{Err}
 use Prim.Native.Nat.{ℕ, zero, suc, ◌+◌, ◌≤◌, ◌<◌}
 use mathlib.Core.Path.{◌≡◌, refl}
 use mathlib.Core.Bool.{Bool, true, false, not, ◌&&◌, ◌||◌}
@@ -22,13 +23,12 @@ use Rattle.ultra_format.specs.Decoding.{context_of, attributes_from, start, stor
 use Rattle.refusals.proofs.Chains.{both_hold}
 use Rattle.ultra_stepping.specs.Checks.{head_check, bounds_check}
 use Rattle.ultra_reading.specs.Reading.{attribute_check, attributes_answer, used_length, reading_of}
-use Rattle.ultra_reading.specs.declared.Reading.TheVariants.{Refused}
 use Rattle.ultra_acceptance.specs.Unread.{SilentByte, SameButSilent, SameButSilentInList}
 use Rattle.ultra_acceptance.specs.Unread.{SilentByte.platform_reserved, SilentByte.platform_tail, SilentByte.kernel_tail, SilentByte.module_reserved, SilentByte.module_tail, SilentByte.framebuffer_tail}
 use Rattle.ultra_acceptance.specs.Unread.{SilentByte.platform_name, SilentByte.kernel_path, SilentByte.module_name, SilentByte.command_line_text, SilentByte.other_body}
 use Rattle.ultra_acceptance.specs.UnreadExample.{refused_cells, filled_with, refused_bytes, RefusedExamples}
 
-is_refused : (v : ℕ) → reading_of (refused_bytes v) ≡ Refused (refusal 13 592)
+is_refused : (v : ℕ) → reading_of (refused_bytes v) ≡ Err (refusal 13 592)
 unfolding refused_bytes reading_of used_length head_check attributes_answer attribute_check bounds_check place_check placed occurs body_check size_suits values kernel_values module_values bpp_suits framebuffer_values texts ascii_text path_text ranges ordered entries_ordered every decoded entries_at start types_before number_at bytes_at text_at
 is_refused v = refl
 

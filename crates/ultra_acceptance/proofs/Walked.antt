@@ -1,4 +1,5 @@
 -- What it says that reading answers a used length: the head and every attribute pass their tests. And back.
+use Rattle.std.specs.Prelude.{Ok}
 use Prim.Native.Nat.{ℕ, zero, suc, ◌+◌, ◌≤◌, ◌<◌}
 use mathlib.Core.Path.{◌≡◌, sym, ap, ◌∙◌, subst}
 use mathlib.Core.Bool.{true}
@@ -12,7 +13,6 @@ use Rattle.ultra_format.specs.Members.{size_suits, values, texts, ranges, ordere
 use Rattle.ultra_format.specs.Contexts.{Body}
 use Rattle.ultra_format.specs.Places.{place_check}
 use Rattle.ultra_format.specs.Decoding.{decoded, start, stored_type, stored_size, stored_count, types_before}
-use Rattle.refusals.specs.declared.Answer.TheVariants.{Done}
 use Rattle.refusals.proofs.Chains.{passed, none_first, not_refused}
 use Rattle.ultra_stepping.specs.Checks.{head_check, bounds_check}
 use Rattle.ultra_stepping.specs.Walking.{InBounds}
@@ -61,7 +61,7 @@ pub passing : (b : List ℕ) (room i : ℕ) → Passes b room i → check_of b r
 passing b room i h = sym (only_body b room (types_before b i) (start b i) (bounds_checked _ _ _ h.bounds) h.place) ∙ body_passes _ _ h.body
 
 -- ---- n attributes from attribute i on
-walked : (b : List ℕ) (room i n m : ℕ) → attributes_answer b room i n ≡ Done m → ((j : ℕ) → i ≤ j → j < i + n → check_of b room j ≡ 0) × (m ≡ start b (i + n))
+walked : (b : List ℕ) (room i n m : ℕ) → attributes_answer b room i n ≡ Ok m → ((j : ℕ) → i ≤ j → j < i + n → check_of b room j ≡ 0) × (m ≡ start b (i + n))
 unfolding attributes_answer
 walked b room i zero m e = (λ j l h. absurd (omega arith), rw add-zero (cc))
 walked b room i (suc n) m e =
@@ -70,13 +70,13 @@ walked b room i (suc n) m e =
     let q : suc i + n ≡ i + suc n = omega arith in
     (λ j l h. ⊎_elim (λ s. subst (λ (k : ℕ). check_of b room k ≡ 0) s p.0) (λ lt. r.0 j lt (omega arith)) (eq-or-lt_of_le l), r.1 ∙ ap (start b) q)
 
-walks : (b : List ℕ) (room i n : ℕ) → ((j : ℕ) → i ≤ j → j < i + n → check_of b room j ≡ 0) → attributes_answer b room i n ≡ Done (start b (i + n))
+walks : (b : List ℕ) (room i n : ℕ) → ((j : ℕ) → i ≤ j → j < i + n → check_of b room j ≡ 0) → attributes_answer b room i n ≡ Ok (start b (i + n))
 unfolding attributes_answer
 walks b room i zero h = rw add-zero
 walks b room i (suc n) h =
     let z : check_of b room i ≡ 0 = h i (omega arith) (omega arith) in
     let q : suc i + n ≡ i + suc n = omega arith in
-    rw z (walks b room (suc i) n (λ j l m. h j (omega arith) (omega arith)) ∙ ap (λ (k : ℕ). Done (start b k)) q)
+    rw z (walks b room (suc i) n (λ j l m. h j (omega arith) (omega arith)) ∙ ap (λ (k : ℕ). Ok (start b k)) q)
 
 -- ---- the whole
 pub record Accepted (fewest : ℕ) (b : List ℕ) (n : ℕ) : Type 0 where
@@ -84,7 +84,7 @@ pub record Accepted (fewest : ℕ) (b : List ℕ) (n : ℕ) : Type 0 where
   pub each : (j : ℕ) → j < stored_count b → Passes b (room_of b) j
   pub used : n ≡ start b (stored_count b)
 
-pub accepted : (fewest : ℕ) (b : List ℕ) (n : ℕ) → used_length fewest b ≡ Done n → Accepted fewest b n
+pub accepted : (fewest : ℕ) (b : List ℕ) (n : ℕ) → used_length fewest b ≡ Ok n → Accepted fewest b n
 unfolding used_length
 accepted fewest b n e =
     let p = not_refused (head_check fewest b) 0 (attributes_answer b (room_of b) 0 (stored_count b)) n e in
@@ -95,12 +95,12 @@ accepted fewest b n e =
       used = w.1 ∙ ap (start b) (zero-add (stored_count b));
     }
 
-pub accepting : (fewest : ℕ) (b : List ℕ) (n : ℕ) → Accepted fewest b n → used_length fewest b ≡ Done n
+pub accepting : (fewest : ℕ) (b : List ℕ) (n : ℕ) → Accepted fewest b n → used_length fewest b ≡ Ok n
 accepting fewest b n h =
     let k = h.head in
     sym (head_goes_on fewest b (sym (head_passes fewest b k.room k.major k.most k.enough)))
     ∙ walks b (room_of b) 0 (stored_count b) (λ j l m. passing b (room_of b) j (h.each j (omega arith)))
-    ∙ ap Done (ap (start b) (zero-add (stored_count b)) ∙ sym h.used)
+    ∙ ap Ok (ap (start b) (zero-add (stored_count b)) ∙ sym h.used)
 
 pub inside : (b : List ℕ) (room n : ℕ) → 8 ≤ room → ((j : ℕ) → j < n → Passes b room j) → start b n ≤ room
 unfolding start

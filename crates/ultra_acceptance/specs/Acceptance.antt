@@ -2,16 +2,14 @@
 -- is one at most, and silent bytes never change what is read. They are proved in proofs/Acceptance.antt. Those with `fewest` speak of
 -- every lower limit of the count, so of what adding reads too. Of a buffer only that its elements are bytes is assumed, and that only where it is needed.
 -- A reader has to believe this file.
-use Rattle.std.specs.Prelude.{ℕ, ◌≤◌, ◌<◌, ◌≡◌, ◌↔◌, List, length, get_or}
+use Rattle.std.specs.Prelude.{ℕ, ◌≤◌, ◌<◌, ◌≡◌, ◌↔◌, List, length, get_or, Ok}
 use Rattle.byte_layout.specs.Stored.{Bytes}
 use Rattle.ultra_format.specs.Contexts.{Context, used}
 use Rattle.lent_buffers.specs.Room.{room_of}
 use Rattle.ultra_format.specs.Layouts.{Opens, Silent}
 use Rattle.ultra_format.specs.Rules.{Meets}
-use Rattle.refusals.specs.declared.Answer.TheVariants.{Done}
-use Rattle.ultra_reading.specs.Reading.{used_length, reading_of, reading_number}
+use Rattle.ultra_reading.specs.Reading.{used_length, reading_of, reading_number, read_as}
 use Rattle.ultra_reading.specs.declared.Version.{Version}
-use Rattle.ultra_reading.specs.declared.Reading.TheVariants.{Accepted}
 
 -- a context that a buffer holds: it "meets the rules" with that buffer's room, "and its bytes open the buffer"
 abbrev pub HoldsContext : ℕ → List ℕ → Context → Type 0
@@ -19,7 +17,7 @@ HoldsContext fewest b c = Meets fewest (room_of b) c × Opens b c
 
 -- a used length is answered exactly when "some list meets the rules and its bytes open the buffer", and it is that list's
 abbrev pub AcceptsExactly : Type 0
-AcceptsExactly = (fewest : ℕ) (b : List ℕ) (n : ℕ) → Bytes b → (used_length fewest b ≡ Done n) ↔ ((c : Context) × HoldsContext fewest b c × (n ≡ used c))
+AcceptsExactly = (fewest : ℕ) (b : List ℕ) (n : ℕ) → Bytes b → (used_length fewest b ≡ Ok n) ↔ ((c : Context) × HoldsContext fewest b c × (n ≡ used c))
 
 -- "Then there is no other such list and no other used length"
 abbrev pub OneContext : Type 0
@@ -45,4 +43,4 @@ ReadsExactly = (b : List ℕ) → Bytes b → (reading_number (reading_of b) ≡
 
 -- and answers that list's version and used length
 abbrev pub ReadsHeld : Type 0
-ReadsHeld = (b : List ℕ) (c : Context) → HoldsContext 2 b c → reading_of b ≡ Accepted (version_in c) (used c)
+ReadsHeld = (b : List ℕ) (c : Context) → HoldsContext 2 b c → reading_of b ≡ read_as (version_in c) (used c)

@@ -2,18 +2,16 @@
 -- not plain. Each is proved with these as parameters (proofs/EveryReading.antt), so that a premise which one of them should not have
 -- would be missing there. Of a buffer nothing is assumed but, where a list is found in it, that its elements are bytes.
 -- A reader has to believe this file.
-use Rattle.std.specs.Prelude.{ℕ, ◌<◌, ◌≡◌, ◌⊎◌, List, ◌++◌, length, get_or, set}
+use Rattle.std.specs.Prelude.{ℕ, ◌<◌, ◌≡◌, ◌⊎◌, List, ◌++◌, length, get_or, set, Err}
 use Rattle.refusals.specs.declared.Refusal.{Refusal}
 use Rattle.ultra_format.specs.Contexts.{Context, used}
 use Rattle.ultra_format.specs.Layouts.{Silent}
 use Rattle.ultra_format.specs.Decoding.{context_of}
 use Rattle.ultra_format.specs.Examples.{every_type, every_type_bytes}
-use Rattle.ultra_reading.specs.Reading.{reading_of, reading_number, reading_value}
-use Rattle.ultra_stepping.specs.Stepping.{step_of, step_number, step_value}
-use Rattle.ultra_reading.specs.declared.Reading.TheVariants as reading
+use Rattle.ultra_reading.specs.Reading.{reading_of, reading_number, reading_value, read_as}
+use Rattle.ultra_stepping.specs.Stepping.{step_of, step_number, step_value, steps_to, at_end}
 use Rattle.ultra_stepping.specs.declared.cursor.Header.{Header}
 use Rattle.ultra_stepping.specs.declared.cursor.Cursor.{Cursor}
-use Rattle.ultra_stepping.specs.declared.cursor.Step.TheVariants.{Attribute, End, Refused}
 use Rattle.ultra_acceptance.specs.Acceptance.{HoldsContext, version_in}
 use Rattle.ultra_acceptance.specs.Refusing.{Refuses}
 use Rattle.ultra_acceptance.specs.Steps.{StepRefuses, StepEnds, StepGives, StepsThrough}
@@ -23,8 +21,8 @@ use Rattle.ultra_acceptance.specs.Unread.{ReadAlike}
 abbrev pub EveryReading : Type 0
 EveryReading =
     (b : List ℕ) → ((i : ℕ) → get_or b i 0 < 256)
-    → ((c : Context) × HoldsContext 2 b c × (reading_of b ≡ reading.Accepted (version_in c) (used c)))
-    ⊎ ((r : Refusal) × Refuses 2 b (reading_number (reading.Refused r)) (reading_value (reading.Refused r)) × (reading_of b ≡ reading.Refused r))
+    → ((c : Context) × HoldsContext 2 b c × (reading_of b ≡ read_as (version_in c) (used c)))
+    ⊎ ((r : Refusal) × Refuses 2 b (reading_number (Err r)) (reading_value (Err r)) × (reading_of b ≡ Err r))
 
 -- and never both; the table names one refusal at most
 pub record OneReading (b : List ℕ) (n o : ℕ) : Type 0 where
@@ -38,8 +36,8 @@ OneReadings = (b : List ℕ) (n o : ℕ) → Refuses 2 b n o → OneReading b n 
 abbrev pub EveryStep : Type 0
 EveryStep =
     (b : List ℕ) (k : Cursor)
-    → ((r : Refusal) × StepRefuses b k (step_number (Refused r)) (step_value (Refused r)) × (step_of b k ≡ Refused r))
-    ⊎ ((StepEnds b k × (step_of b k ≡ End)) ⊎ ((h : Header) × (m : Cursor) × StepGives b k h m × (step_of b k ≡ Attribute h m)))
+    → ((r : Refusal) × StepRefuses b k (step_number (Err r)) (step_value (Err r)) × (step_of b k ≡ Err r))
+    ⊎ ((StepEnds b k × (step_of b k ≡ at_end)) ⊎ ((h : Header) × (m : Cursor) × StepGives b k h m × (step_of b k ≡ steps_to h m)))
 
 -- and only one of the three; here too the table names one refusal at most
 pub record OneStep (b : List ℕ) (k : Cursor) : Type 0 where

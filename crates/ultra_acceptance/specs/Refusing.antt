@@ -3,7 +3,7 @@
 -- breaks; which of several is given is said after them. For 12 to 16 the conditions are the tests of Members (crate ultra_format), which
 -- the rules ask too. Of a buffer nothing is assumed.
 -- A reader has to believe this file.
-use Rattle.std.specs.Prelude.{ℕ, ◌+◌, ◌-◌, ◌%◌, ◌<◌, ◌≡◌, ◌↔◌, ◌⊎◌, true, false, List, get_or}
+use Rattle.std.specs.Prelude.{ℕ, ◌+◌, ◌-◌, ◌%◌, ◌<◌, ◌≡◌, ◌↔◌, ◌⊎◌, true, false, List, get_or, Err}
 use Rattle.refusals.specs.Refusals.{SHORT, VERSION, COUNT, MISSING, HEADER, SIZE, OVERRUN, TYPE, PLACE, REPEAT, SPLIT, FORM, VALUE, TEXT, RANGE, ORDER}
 use Rattle.refusals.specs.Answers.{number_of, value_of}
 use Rattle.ultra_format.specs.Contexts.{Body}
@@ -12,9 +12,7 @@ use Rattle.ultra_format.specs.Members.{size_suits, values, texts, ranges, ordere
 use Rattle.ultra_format.specs.Places.{single, repeatable}
 use Rattle.ultra_format.specs.Decoding.{start, stored_type, stored_size, stored_count, stored_attribute}
 use Rattle.refusals.specs.declared.Refusal.{Refusal}
-use Rattle.refusals.specs.declared.Answer.TheVariants.{Refused}
 use Rattle.ultra_reading.specs.Reading.{used_length, reading_of, reading_number, reading_value}
-use Rattle.ultra_reading.specs.declared.Reading.TheVariants as reading
 
 -- ---- the table
 -- the head of b falls under the condition of a number, with `fewest` as the lower limit of the count
@@ -88,9 +86,9 @@ pub data Refuses (fewest : ℕ) (b : List ℕ) (n : ℕ) : ℕ → Type 0 where
 -- it would be false
 abbrev pub RefusesExactly : Type 0
 RefusesExactly = (fewest : ℕ) (b : List ℕ) (r : Refusal)
-    → (used_length fewest b ≡ Refused r) ↔ Refuses fewest b (number_of (Refused r)) (value_of (Refused r))
+    → (used_length fewest b ≡ Err r) ↔ Refuses fewest b (number_of (Err r)) (value_of (Err r))
 
 -- and by the reading call, with "count below 2"
 abbrev pub ReadingRefuses : Type 0
 ReadingRefuses = (b : List ℕ) (r : Refusal)
-    → (reading_of b ≡ reading.Refused r) ↔ Refuses 2 b (reading_number (reading.Refused r)) (reading_value (reading.Refused r))
+    → (reading_of b ≡ Err r) ↔ Refuses 2 b (reading_number (Err r)) (reading_value (Err r))

@@ -4,17 +4,16 @@
 -- the offset is below 8 or no multiple of 8; then 6, 7, 8; else hands back the attribute's type, start and size together with the next
 -- cursor. Refusals 1 to 4 of a step have offset 0, the others the cursor's offset."
 -- A reader has to believe this file.
-use Rattle.std.specs.Prelude.{ℕ, ◌+◌, ◌%◌, ◌≤◌, ◌<◌, ◌≡◌, ◌↔◌, ◌⊎◌, List}
+use Rattle.std.specs.Prelude.{ℕ, ◌+◌, ◌%◌, ◌≤◌, ◌<◌, ◌≡◌, ◌↔◌, ◌⊎◌, List, Err}
 use Rattle.words.specs.Words.{u32_at}
 use Rattle.refusals.specs.Refusals.{HEADER, SIZE, OVERRUN, TYPE}
 use Rattle.ultra_format.specs.Contexts.{Context, count, type_at, size_at, start_in}
 use Rattle.lent_buffers.specs.Room.{room_of}
 use Rattle.ultra_format.specs.Decoding.{stored_count}
 use Rattle.refusals.specs.declared.Refusal.{Refusal}
-use Rattle.ultra_stepping.specs.Stepping.{step_of, step_number, step_value}
+use Rattle.ultra_stepping.specs.Stepping.{step_of, step_number, step_value, steps_to, at_end}
 use Rattle.ultra_stepping.specs.declared.cursor.Header.{Header}
 use Rattle.ultra_stepping.specs.declared.cursor.Cursor.{Cursor}
-use Rattle.ultra_stepping.specs.declared.cursor.Step.TheVariants.{Attribute, End, Refused}
 use Rattle.ultra_acceptance.specs.Acceptance.{HoldsContext}
 use Rattle.ultra_acceptance.specs.Refusing.{HeadBreaks, NoneBreaks, Least}
 
@@ -57,12 +56,12 @@ pub record StepGives (b : List ℕ) (k : Cursor) (h : Header) (m : Cursor) : Typ
 -- over whole refusals, as RefusesExactly is
 pub record StepsExactly : Type 0 where
   pub refuses : (b : List ℕ) (k : Cursor) (r : Refusal)
-      → (step_of b k ≡ Refused r) ↔ StepRefuses b k (step_number (Refused r)) (step_value (Refused r))
-  pub ends : (b : List ℕ) (k : Cursor) → (step_of b k ≡ End) ↔ StepEnds b k
-  pub gives : (b : List ℕ) (k : Cursor) (h : Header) (m : Cursor) → (step_of b k ≡ Attribute h m) ↔ StepGives b k h m
+      → (step_of b k ≡ Err r) ↔ StepRefuses b k (step_number (Err r)) (step_value (Err r))
+  pub ends : (b : List ℕ) (k : Cursor) → (step_of b k ≡ at_end) ↔ StepEnds b k
+  pub gives : (b : List ℕ) (k : Cursor) (h : Header) (m : Cursor) → (step_of b k ≡ steps_to h m) ↔ StepGives b k h m
   -- "0 is success"; "A step's value is the next cursor's offset, or 0 at the end."
-  pub end_number : (step_number End ≡ 0) × (step_value End ≡ 0)
-  pub attribute_number : (h : Header) (m : Cursor) → (step_number (Attribute h m) ≡ 0) × (step_value (Attribute h m) ≡ m.offset)
+  pub end_number : (step_number at_end ≡ 0) × (step_value at_end ≡ 0)
+  pub attribute_number : (h : Header) (m : Cursor) → (step_number (steps_to h m) ≡ 0) × (step_value (steps_to h m) ≡ m.offset)
 
 -- the cursor of attribute i in a list
 abbrev pub cursor_of : Context → ℕ → Cursor
@@ -73,9 +72,9 @@ pub record StepsThrough (b : List ℕ) (c : Context) : Type 0 where
   -- "the first is 0 and 8"
   pub first : cursor_of c 0 ≡ record { index = 0; offset = 8 }
   pub each : (i : ℕ) → i < count c
-      → step_of b (cursor_of c i) ≡ Attribute (record { kind = type_at c i; start = start_in c.attributes i; size = size_at c i }) (cursor_of c (i + 1))
+      → step_of b (cursor_of c i) ≡ steps_to (record { kind = type_at c i; start = start_in c.attributes i; size = size_at c i }) (cursor_of c (i + 1))
   -- "answers the end if the index is at or past the count", and else not
-  pub ends : (k : Cursor) → (step_of b k ≡ End) ↔ (count c ≤ k.index)
+  pub ends : (k : Cursor) → (step_of b k ≡ at_end) ↔ (count c ≤ k.index)
 
 -- whichever context a buffer holds, whoever wrote it
 abbrev pub SteppingThrough : Type 0

@@ -1,14 +1,13 @@
 -- The premises of specs/Unread.antt can be met: a refused buffer with every kind of silent byte, written out by hand from document 01's
 -- table, with anything in these bytes. proofs/UnreadExample.antt proves the statement.
 -- A reader has to believe this file.
-use Rattle.std.specs.Prelude.{ℕ, ◌≡◌, List, [], ◌∷◌, ◌++◌}
+use Rattle.std.specs.Prelude.{ℕ, ◌≡◌, List, [], ◌∷◌, ◌++◌, Err}
 use Rattle.byte_layout.specs.Fields.{Cell, bytes, silence}
 use Rattle.byte_layout.specs.Fields.{Cell.byte, Cell.silent}
 use Rattle.refusals.specs.Refusals.{VALUE}
 use Rattle.refusals.specs.Answers.{refusal}
 use Rattle.ultra_format.specs.Examples.{zeros}
 use Rattle.ultra_reading.specs.Reading.{reading_of}
-use Rattle.ultra_reading.specs.declared.Reading.TheVariants.{Refused}
 use Rattle.ultra_acceptance.specs.Unread.{SameButSilent, SameButSilentInList}
 
 -- 632 bytes; the last attribute is refused
@@ -61,7 +60,7 @@ refused_bytes v = filled_with v refused_cells
 
 -- with v it is refused by the rules on values, and with w in place of v it differs in silent bytes only
 pub record RefusedExample (v w : ℕ) : Type 0 where
-  pub refused : reading_of (refused_bytes v) ≡ Refused (refusal VALUE 592)
+  pub refused : reading_of (refused_bytes v) ≡ Err (refusal VALUE 592)
   pub same : SameButSilent (refused_bytes v) (refused_bytes w)
   pub same_in_list : SameButSilentInList (refused_bytes v) (refused_bytes w)
 

@@ -8,53 +8,44 @@ ghost use Rattle.std.specs.Prelude.{◌≡◌};
 ghost use Rattle.ultra_format.specs.Additions.{Addition};
 ghost use Rattle.ultra_adding.specs.Adding.{added};
 
-use refusals::Answer;
+use refusals::Refusal;
 use ultra_appending::raise_count;
 use ultra_format::FramebufferRecord;
 use ultra_layout::{framebuffer, types};
 
 // Adds a memory map: an address, a size and a type for each entry.
-pub fn add_map(buf: &mut [u8], numbers: &[u64]) -> Answer
+pub fn add_map(buf: &mut [u8], numbers: &[u64]) -> Result<u32, Refusal>
     ensures { (result, buf.new) ≡ added buf.old (Addition.add_map numbers.now) }
 {
-    let number = ultra_arguments::map::check(numbers);
+    let judged = ultra_arguments::map::check(numbers);
     let size = ultra_writing::map::size(numbers);
-    let answer = raise_count(buf, types::MEMORY_MAP, number, size);
-    let Answer::Done(used) = answer else {
-        return answer;
-    };
+    let used = raise_count(buf, types::MEMORY_MAP, judged, size)?;
     ultra_writing::map::write(&mut buf[used as usize..], numbers);
-    Answer::Done(used + size as u32)
+    Ok(used + size as u32)
 }
 
 // Adds a command line: the text as it is, without a closing zero.
-pub fn add_command_line(buf: &mut [u8], text: &[u8]) -> Answer
+pub fn add_command_line(buf: &mut [u8], text: &[u8]) -> Result<u32, Refusal>
     ensures { (result, buf.new) ≡ added buf.old (Addition.add_command_line text.now) }
 {
-    let number = ultra_arguments::command_line::check(text);
+    let judged = ultra_arguments::command_line::check(text);
     let size = ultra_writing::command_line::size(text);
-    let answer = raise_count(buf, types::COMMAND_LINE, number, size);
-    let Answer::Done(used) = answer else {
-        return answer;
-    };
+    let used = raise_count(buf, types::COMMAND_LINE, judged, size)?;
     ultra_writing::command_line::write(&mut buf[used as usize..], text);
-    Answer::Done(used + size as u32)
+    Ok(used + size as u32)
 }
 
 // Adds a framebuffer.
-pub fn add_framebuffer(buf: &mut [u8], given: FramebufferRecord) -> Answer
+pub fn add_framebuffer(buf: &mut [u8], given: FramebufferRecord) -> Result<u32, Refusal>
     ensures { (result, buf.new) ≡ added buf.old (Addition.add_framebuffer given) }
 {
-    let number = ultra_arguments::framebuffer::check(given);
-    let answer = raise_count(
+    let judged = ultra_arguments::framebuffer::check(given);
+    let used = raise_count(
         buf,
         types::FRAMEBUFFER,
-        number,
+        judged,
         framebuffer::LEAST_SIZE as usize,
-    );
-    let Answer::Done(used) = answer else {
-        return answer;
-    };
+    )?;
     ultra_writing::framebuffer::write(&mut buf[used as usize..], given);
-    Answer::Done(used + framebuffer::LEAST_SIZE)
+    Ok(used + framebuffer::LEAST_SIZE)
 }

@@ -4,7 +4,7 @@ ghost use Rattle.std.specs.Prelude.{◌≡◌, true};
 ghost use Rattle.ultra_format.specs.Additions.{platform_of, kernel_of, map_of, module_of, map_formed, guids_formed};
 ghost use Rattle.ultra_adding.specs.Adding.{added_members};
 
-use refusals::Answer;
+use refusals::Refusal;
 use ultra_appending::raise_count;
 use ultra_layout::{entry, kernel, map, module, platform, types};
 
@@ -21,14 +21,11 @@ pub fn add_platform(
     depth: u8,
     dtb: u64,
     smbios: u64,
-) -> Answer
+) -> Result<u32, Refusal>
     ensures { (result, buf.new) ≡ added_members buf.old complete (platform_of kind major minor name.now rsdp base depth dtb smbios) }
 {
-    let number = ultra_arguments::platform::check(complete, kind, name);
-    let answer = raise_count(buf, types::PLATFORM, number, platform::FULL_SIZE as usize);
-    let Answer::Done(used) = answer else {
-        return answer;
-    };
+    let judged = ultra_arguments::platform::check(complete, kind, name);
+    let used = raise_count(buf, types::PLATFORM, judged, platform::FULL_SIZE as usize)?;
     ultra_writing::platform::write(
         &mut buf[used as usize..],
         kind,
@@ -41,7 +38,7 @@ pub fn add_platform(
         dtb,
         smbios,
     );
-    Answer::Done(used + platform::FULL_SIZE)
+    Ok(used + platform::FULL_SIZE)
 }
 
 // Adds a kernel.
@@ -56,10 +53,10 @@ pub fn add_kernel(
     disk_index: u32,
     partition_index: u32,
     path: &[u8],
-) -> Answer
+) -> Result<u32, Refusal>
     ensures { (result, buf.new) ≡ added_members buf.old (guids_formed disk.now partition.now) (kernel_of phys virt size partition_type disk.now partition.now disk_index partition_index path.now) }
 {
-    let number = ultra_arguments::kernel::check(
+    let judged = ultra_arguments::kernel::check(
         phys,
         virt,
         size,
@@ -68,10 +65,7 @@ pub fn add_kernel(
         partition,
         path,
     );
-    let answer = raise_count(buf, types::KERNEL, number, kernel::LEAST_SIZE as usize);
-    let Answer::Done(used) = answer else {
-        return answer;
-    };
+    let used = raise_count(buf, types::KERNEL, judged, kernel::LEAST_SIZE as usize)?;
     ultra_writing::kernel::write(
         &mut buf[used as usize..],
         phys,
@@ -84,32 +78,32 @@ pub fn add_kernel(
         partition_index,
         path,
     );
-    Answer::Done(used + kernel::LEAST_SIZE)
+    Ok(used + kernel::LEAST_SIZE)
 }
 
 // Adds a memory map from bytes, "eight to a number": they are read where they lie.
-pub fn add_map(buf: &mut [u8], entries: &[u8]) -> Answer
+pub fn add_map(buf: &mut [u8], entries: &[u8]) -> Result<u32, Refusal>
     ensures { (result, buf.new) ≡ added_members buf.old (map_formed entries.now) (map_of entries.now) }
 {
-    let number = ultra_arguments::map::bytes_check(entries);
+    let judged = ultra_arguments::map::bytes_check(entries);
     let size = map::ENTRIES + entries.len() / entry::WIDTH * entry::WIDTH;
-    let answer = raise_count(buf, types::MEMORY_MAP, number, size);
-    let Answer::Done(used) = answer else {
-        return answer;
-    };
+    let used = raise_count(buf, types::MEMORY_MAP, judged, size)?;
     ultra_writing::map::write_bytes(&mut buf[used as usize..], entries);
-    Answer::Done(used + size as u32)
+    Ok(used + size as u32)
 }
 
 // Adds a module.
-pub fn add_module(buf: &mut [u8], kind: u32, name: &[u8], address: u64, size: u64) -> Answer
+pub fn add_module(
+    buf: &mut [u8],
+    kind: u32,
+    name: &[u8],
+    address: u64,
+    size: u64,
+) -> Result<u32, Refusal>
     ensures { (result, buf.new) ≡ added_members buf.old true (module_of kind name.now address size) }
 {
-    let number = ultra_arguments::module::check(kind, name, address, size);
-    let answer = raise_count(buf, types::MODULE, number, module::LEAST_SIZE as usize);
-    let Answer::Done(used) = answer else {
-        return answer;
-    };
+    let judged = ultra_arguments::module::check(kind, name, address, size);
+    let used = raise_count(buf, types::MODULE, judged, module::LEAST_SIZE as usize)?;
     ultra_writing::module::write(&mut buf[used as usize..], kind, name, address, size);
-    Answer::Done(used + module::LEAST_SIZE)
+    Ok(used + module::LEAST_SIZE)
 }

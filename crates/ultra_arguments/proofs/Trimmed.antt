@@ -1,10 +1,17 @@
 -- The text that an array gives, from its end: a zero there is dropped, and any other byte ends the text.
-use Prim.Native.Nat.{ℕ, zero, suc, ◌-◌, ◌≤◌, ◌<◌}
-use mathlib.Core.Path.{◌≡◌, refl, ap, sym, ◌∙◌}
+use Prim.Native.Nat.{ℕ, zero, suc, ◌+◌, ◌-◌, ◌≤◌}
+use mathlib.Core.Path.{◌≡◌, refl, ap, ◌∙◌}
 use mathlib.Core.List.{List, [], ◌∷◌, ◌++◌}
 use native.Mathlib.Omega.{arith}
-use lib.ListN.{length, take, get_or}
-use lib.Seq.{take-suc}
+use lib.ListN.{length, take}
+use lib.Dec.{eqb, eqb-suc-zero}
+use native.Mathlib.Nat.{sub-zero}
+use Rattle.std.specs.List.{take_while, prefix_len}
+use Rattle.std.proofs.Common.{reverse}
+use Rattle.std.proofs.lemmas.List.{reverse-reverse, reverse-append, take-append-le, length-append, length-reverse}
+use Rattle.std.proofs.lemmas.List.Sums.{prefix_len-le-length}
+use Rattle.std.proofs.lemmas.List.Folds.{length-prefix_len}
+use Rattle.std.proofs.Math.Seq.{take-length}
 use Rattle.ultra_format.specs.Records.{unless_trailing, trimmed}
 
 trailing_zero : (l : List ℕ) → trimmed (l ++ (0 ∷ [])) ≡ trimmed l
@@ -23,23 +30,26 @@ unfolding trimmed
 last_byte_law [] y = refl
 last_byte_law (x ∷ l) y = kept x y l _ (last_byte_law l y) ∙ ap (λ (m : List ℕ). x ∷ m) (last_byte_law l y)
 
-module _ (b : List ℕ) (n : ℕ) where
-  pub all_zeros : n ≤ 0 → trimmed (take n b) ≡ trimmed b → take 0 b ≡ trimmed b
-  unfolding trimmed
-  all_zeros h e = let q : n ≡ 0 = omega arith in rw q at e
+-- ---- a list from its end: the zeros that come first there are the trailing ones
+abbrev zeros : List ℕ → ℕ
+zeros l = length (take_while (λ x. eqb x 0) l)
 
-  module _ (h : 0 < n) (l : n ≤ length b) where
-    one_more : take n b ≡ take (n - 1) b ++ (get_or b (n - 1) 0 ∷ [])
-    one_more = let q : n ≡ suc (n - 1) = omega arith in ap (λ (k : ℕ). take k b) q ∙ take-suc b (n - 1) 0 (omega arith)
+zeros_are : (l : List ℕ) → zeros l ≡ prefix_len (λ x. eqb x 0) l
+zeros_are l = length-prefix_len (λ x. eqb x 0) l
 
-    pub zero_dropped : get_or b (n - 1) 0 ≡ 0 → trimmed (take n b) ≡ trimmed (take (n - 1) b)
-    zero_dropped e = ap trimmed (one_more ∙ ap (λ (x : ℕ). take (n - 1) b ++ (x ∷ [])) e) ∙ trailing_zero (take (n - 1) b)
+from_end : (r : List ℕ) → take (length (reverse r) - prefix_len (λ x. eqb x 0) r) (reverse r) ≡ trimmed (reverse r)
+unfolding trimmed
+from_end [] = refl
+from_end (zero ∷ r) =
+    let p = prefix_len (λ x. eqb x 0) r in
+    let w = prefix_len-le-length (λ x. eqb x 0) r in
+    let q : prefix_len (λ x. eqb x 0) (0 ∷ r) ≡ 1 + p = refl in
+    let l : length (reverse r ++ (0 ∷ [])) - (1 + p) ≡ length (reverse r) - p = omega (arith, length-append (reverse r) (0 ∷ []), length-reverse r) in
+    let h : length (reverse r) - p ≤ length (reverse r) = omega arith in
+    rw (reverse-append (0 ∷ []) r, q, l, trailing_zero (reverse r), take-append-le (length (reverse r) - p) (reverse r) (0 ∷ []) h) (from_end r)
+from_end (suc x ∷ r) =
+    let q : prefix_len (λ x. eqb x 0) (suc x ∷ r) ≡ 0 = simp (eqb-suc-zero x) in
+    rw (reverse-append (suc x ∷ []) r, q, sub-zero, last_byte_law (reverse r) x) (take-length (reverse r ++ (suc x ∷ [])))
 
-    pub last_kept : (get_or b (n - 1) 0 ≡ 0 → ⊥) → trimmed (take n b) ≡ take n b
-    last_kept e = go (get_or b (n - 1) 0) refl
-      where
-        go : (x : ℕ) → get_or b (n - 1) 0 ≡ x → trimmed (take n b) ≡ take n b
-        go zero q = absurd (e q)
-        go (suc y) q =
-            let w : take n b ≡ take (n - 1) b ++ (suc y ∷ []) = one_more ∙ ap (λ (x : ℕ). take (n - 1) b ++ (x ∷ [])) q in
-            ap trimmed w ∙ last_byte_law (take (n - 1) b) y ∙ sym w
+pub trimmed_is : (b : List ℕ) → take (length b - zeros (reverse b)) b ≡ trimmed b
+trimmed_is b = rw (zeros_are (reverse b)) (rw reverse-reverse at (from_end (reverse b)))

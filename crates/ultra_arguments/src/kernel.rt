@@ -1,4 +1,5 @@
 ghost use Rattle.std.specs.Prelude.{◌≡◌, true, ◌&&◌};
+ghost use Rattle.refusals.specs.Answers.{checked};
 ghost use Rattle.address_ranges.specs.Ranges.{range_fits};
 ghost use Rattle.ultra_format.specs.Members.{kernel_values, path_text, member_check};
 ghost use Rattle.ultra_format.specs.Additions.{guids_formed};
@@ -9,10 +10,7 @@ use ultra_layout::kernel;
 fn guids_formed(disk: &[u8], partition: &[u8]) -> bool
     ensures { result ≡ guids_formed disk.now partition.now }
 {
-    if disk.len() != kernel::GUID_WIDTH {
-        return false;
-    }
-    partition.len() == kernel::GUID_WIDTH
+    disk.len() == kernel::GUID_WIDTH && partition.len() == kernel::GUID_WIDTH
 }
 
 // Only these members have rules.
@@ -24,8 +22,8 @@ pub fn check(
     disk: &[u8],
     partition: &[u8],
     path: &[u8],
-) -> u16
-    ensures { result ≡ member_check (guids_formed disk.now partition.now) (kernel_values phys virt size partition_type) (path_text 256 path.now) (range_fits phys size && range_fits virt size) true }
+) -> Result<(), u16>
+    ensures { result ≡ checked (member_check (guids_formed disk.now partition.now) (kernel_values phys virt size partition_type) (path_text 256 path.now) (range_fits phys size && range_fits virt size) true) }
 {
     let form = guids_formed(disk, partition);
     let text = crate::texts::path(path);

@@ -1,5 +1,6 @@
 -- Proofs of the statements in specs/AddingRefusals.antt: the chain of tests that an add goes through answers the first number whose
 -- condition is met (`decided`), and reading goes before it.
+use Rattle.std.specs.Prelude.{Ok, Err}
 use Prim.Native.Nat.{ℕ, ◌+◌, ◌-◌, ◌*◌, ◌≤◌, ◌<◌}
 use mathlib.Core.Path.{◌≡◌, refl, sym, ap, ◌∙◌, subst}
 use mathlib.Core.Bool.{Bool, true, false, ◌&&◌, true≢false}
@@ -12,7 +13,7 @@ use borrow.Fn.Enter.{pair≡}
 use borrow.Author.Tests.{lt-leb, leb-false, ltb-true, ltb-false, eqb-true, eqb-false, eq-eqb, ne_eqb}
 use Rattle.byte_layout.specs.Stored.{Bytes}
 use Rattle.refusals.specs.Refusals.{unless, first_of, PLACE, REPEAT, SPLIT, FORM, VALUE, TEXT, RANGE, ORDER, FULL, ROOM}
-use Rattle.refusals.specs.Answers.{refusal, refused, number_of, value_of}
+use Rattle.refusals.specs.Answers.{Answer, refusal, refused, number_of, value_of}
 use Rattle.ultra_format.specs.Contexts.{Member, Platform, Body, type_of, Context, count, type_at, used}
 use Rattle.ultra_format.specs.Contexts.{Member.present, Member.absent, Body.platform, Body.kernel, Body.memory_map, Body.module_info, Body.command_line, Body.framebuffer, Body.other}
 use Rattle.lent_buffers.specs.Room.{room_of}
@@ -22,8 +23,6 @@ use Rattle.ultra_format.specs.Places.{placed, occurs, place_check}
 use Rattle.ultra_format.specs.Decoding.{stored_type, stored_count, context_of, types_before}
 use Rattle.ultra_format.specs.Additions.{given_check}
 use Rattle.refusals.specs.declared.Refusal.{Refusal}
-use Rattle.refusals.specs.declared.Answer.{Answer}
-use Rattle.refusals.specs.declared.Answer.TheVariants.{Done, Refused}
 use Rattle.refusals.proofs.Chains.{refuses}
 use Rattle.ultra_format.proofs.Decoded.{count_decoded, type_decoded, decoded_only}
 use Rattle.ultra_reading.specs.Reading.{used_length}
@@ -220,25 +219,25 @@ module _ (b : List ℕ) (ok : Bool) (given : Body) where
           (settled (in_adding (room_of b) now ok given) (then _ _ types_chain (then _ _ given_chain (beyond few (link _ (λ e. past (leb-false _ _ e)) on_past ends)))))
 
 -- ---- what an add answers
-clash : {P : Type 0} {v : ℕ} {r : Refusal} {a : Answer} → a ≡ Done v → a ≡ Refused r → P
+clash : {P : Type 0} {v : ℕ} {r : Refusal} {a : Answer} → a ≡ Ok v → a ≡ Err r → P
 clash p q = absurd (let z : ◌≡◌ {A = ℕ} 0 1 = cc in omega arith)
 
 module _ (b : List ℕ) (ok : Bool) (given : Body) where
-  unread : (r : Refusal) → used_length 0 b ≡ Refused r → (added_members b ok given).0 ≡ Refused r
+  unread : (r : Refusal) → used_length 0 b ≡ Err r → (added_members b ok given).0 ≡ Err r
   unfolding added_members append_offset
   unread r e = rw e
 
-  read_or : Bytes b → ((r : Refusal) × (used_length 0 b ≡ Refused r)) ⊎ ((c : Context) × HoldsContext 0 b c)
+  read_or : Bytes b → ((r : Refusal) × (used_length 0 b ≡ Err r)) ⊎ ((c : Context) × HoldsContext 0 b c)
   read_or y = go (used_length 0 b) refl
     where
-      go : (a : Answer) → used_length 0 b ≡ a → ((r : Refusal) × (used_length 0 b ≡ Refused r)) ⊎ ((c : Context) × HoldsContext 0 b c)
-      go (Refused r) e = inl (r, e)
-      go (Done n) e = let h = (accepts_exactly 0 b n y).0 e in inr (h.0, h.1)
+      go : (a : Answer) → used_length 0 b ≡ a → ((r : Refusal) × (used_length 0 b ≡ Err r)) ⊎ ((c : Context) × HoldsContext 0 b c)
+      go (Err r) e = inl (r, e)
+      go (Ok n) e = let h = (accepts_exactly 0 b n y).0 e in inr (h.0, h.1)
 
   abbrev Broken : Context → ℕ → Type 0
   Broken c = AdditionBreaks (room_of b) c ok given
 
-  outcome : (c : Context) → HoldsContext 0 b c → (((added_members b ok given).0 ≡ Done (used c + written_size given)) × NoneBreaks (Broken c)) ⊎ ((n : ℕ) × ((added_members b ok given).0 ≡ refused n (used c)) × FirstBroken (Broken c) n)
+  outcome : (c : Context) → HoldsContext 0 b c → (((added_members b ok given).0 ≡ Ok (used c + written_size given)) × NoneBreaks (Broken c)) ⊎ ((n : ℕ) × ((added_members b ok given).0 ≡ refused n (used c)) × FirstBroken (Broken c) n)
   outcome c h =
       let q = decoded_only 0 (room_of b) b c h.0 h.1 in
       rw (members_held b c ok given h)
@@ -271,8 +270,8 @@ module _ (b : List ℕ) (ok : Bool) (given : Body) where
       (λ h. ⊎_elim (λ d. (h.0, h.1, d.1, sym v ∙ ap value_of d.0))
       (λ r. absurd (omega (arith, ap number_of r.1, (in_adding (room_of b) h.0 ok given r.0 r.2.0).0))) (outcome h.0 h.1)) (read_or y)
 
-  is_done : (m : ℕ) → Succeeds m → (added_members b ok given).0 ≡ Done m
-  is_done m d = ⊎_elim (λ a. a.0 ∙ ap Done (sym d.3)) (λ r. absurd (d.2 r.0 r.2.0)) (outcome d.0 d.1)
+  is_done : (m : ℕ) → Succeeds m → (added_members b ok given).0 ≡ Ok m
+  is_done m d = ⊎_elim (λ a. a.0 ∙ ap Ok (sym d.3)) (λ r. absurd (d.2 r.0 r.2.0)) (outcome d.0 d.1)
 
 -- ---- the statements
 pub adding_refuses : AddingRefuses
@@ -283,9 +282,9 @@ pub refused_add_keeps : RefusedAddKeeps
 unfolding added_members
 refused_add_keeps b ok given r e = go (append_offset b (type_of given) (given_check ok given) (written_size given)) e
   where
-    go : (p : Answer) → (added_at b given p).0 ≡ Refused r → (added_at b given p).1 ≡ b
-    go (Done m) w = absurd (let z : ◌≡◌ {A = ℕ} 0 1 = cc in omega arith)
-    go (Refused s) w = refl
+    go : (p : Answer) → (added_at b given p).0 ≡ Err r → (added_at b given p).1 ≡ b
+    go (Ok m) w = absurd (let z : ◌≡◌ {A = ℕ} 0 1 = cc in omega arith)
+    go (Err s) w = refl
 
 pub adding_succeeds : AddingSucceeds
 adding_succeeds b ok given m y =
@@ -296,12 +295,12 @@ every : AddingRefuses → RefusedAddKeeps → AddingSucceeds → EveryAdd
 every refuse keep succeed b ok given y = go (added_members b ok given).0 refl
   where
     go : (a : Answer) → (added_members b ok given).0 ≡ a
-        → ((r : Refusal) × AddRefused b ok given (number_of (Refused r)) (value_of (Refused r)) × (added_members b ok given ≡ (Refused r, b)))
-        ⊎ ((c : Context) × HoldsContext 0 b c × NoneBreaks (AdditionBreaks (room_of b) c ok given) × ((added_members b ok given).0 ≡ Done (used c + written_size given)))
-    go (Refused r) e = inl (r, (refuse b ok given r y).0 e, pair≡ e (keep b ok given r e))
-    go (Done n) e =
+        → ((r : Refusal) × AddRefused b ok given (number_of (Err r)) (value_of (Err r)) × (added_members b ok given ≡ (Err r, b)))
+        ⊎ ((c : Context) × HoldsContext 0 b c × NoneBreaks (AdditionBreaks (room_of b) c ok given) × ((added_members b ok given).0 ≡ Ok (used c + written_size given)))
+    go (Err r) e = inl (r, (refuse b ok given r y).0 e, pair≡ e (keep b ok given r e))
+    go (Ok n) e =
         let s = (succeed b ok given n y).0 (ap number_of e, ap value_of e) in
-        inr (s.0, s.1, s.2, e ∙ ap Done s.3)
+        inr (s.0, s.1, s.2, e ∙ ap Ok s.3)
 
 -- no row has the number 0
 numbered : (b : List ℕ) (ok : Bool) (given : Body) (n o : ℕ) → AddRefused b ok given n o → n ≡ 0 → ⊥
@@ -311,7 +310,7 @@ numbered b ok given n o (adding c h f) z = omega (arith, (in_adding (room_of b) 
 one : AddingRefuses → AddingSucceeds → OneAnswer
 one refuse succeed b ok given r y h =
     let e = (refuse b ok given r y).1 h in (
-      λ s k. let w : Refused s ≡ Refused r = sym ((refuse b ok given s y).1 k) ∙ e in cc,
+      λ s k. let w : Err s ≡ Err r = sym ((refuse b ok given s y).1 k) ∙ e in cc,
       λ c g n. numbered b ok given r.number r.offset h (sym (ap number_of e) ∙ ((succeed b ok given (used c + written_size given) y).1 (c, g, n, refl)).0),
     )
 

@@ -1,4 +1,6 @@
 -- What a record gives is what its members give one by one: its text without trailing zeros, and late members that are present.
+use Rattle.std.specs.Prelude.{Option, Some, None, is_some}
+use Rattle.std.specs.Option.{unwrap_or}
 use Prim.Native.Nat.{ℕ, ◌-◌}
 use mathlib.Core.Path.{◌≡◌, refl, sym, ap}
 use mathlib.Core.Bool.{Bool, true, false, ◌&&◌}
@@ -9,7 +11,7 @@ use Rattle.ultra_format.specs.Contexts.{Member, Platform, Body}
 use Rattle.ultra_format.specs.Contexts.{Member.present, Member.absent, Body.platform}
 use Rattle.ultra_format.specs.Members.{present_if, size_suits, body_check}
 use Rattle.ultra_format.specs.Plain.{written_size}
-use Rattle.ultra_format.specs.Records.{trimmed, platform_given}
+use Rattle.ultra_format.specs.Records.{member_of, trimmed, platform_given}
 use Rattle.ultra_format.specs.Additions.{platform_of, given_check}
 use Rattle.ultra_format.specs.declared.records.PlatformRecord.{PlatformRecord}
 use Rattle.refusals.proofs.Chains.{both_hold}
@@ -25,6 +27,15 @@ text_part l n e = let q : n - 0 ≡ n = omega arith in rw q e
 is_present : (m : Member) → present_if true m ≡ true → m ≡ present (number_or_zero m)
 is_present (present n) h = refl
 is_present absent h = absurd (let y : ◌≡◌ {A = ℕ} 0 1 = cc in omega arith)
+
+-- a record's member by the library's words
+pub is_some_present : (o : Option ℕ) → is_some o ≡ present_if true (member_of o)
+is_some_present (Some n) = refl
+is_some_present None = refl
+
+pub number_unwrapped : (o : Option ℕ) → unwrap_or o 0 ≡ number_or_zero (member_of o)
+number_unwrapped (Some n) = refl
+number_unwrapped None = refl
 
 module _ (b : List ℕ) (r : PlatformRecord) where
   abbrev given : Platform

@@ -5,7 +5,7 @@
 -- `refused_add_keeps`, `adding_succeeds`, from these three `every_add` and `one_answer`, and `adding_in_digits`. Of a buffer only
 -- that its elements are bytes is assumed.
 -- A reader has to believe this file.
-use Rattle.std.specs.Prelude.{ℕ, ◌+◌, ◌-◌, ◌≤◌, ◌<◌, ◌≡◌, Bool, true, false, ◌↔◌, ◌⊎◌, List, [], ◌∷◌, get_or, replicate, eqb}
+use Rattle.std.specs.Prelude.{ℕ, ◌+◌, ◌-◌, ◌≤◌, ◌<◌, ◌≡◌, Bool, true, false, ◌↔◌, ◌⊎◌, List, [], ◌∷◌, get_or, replicate, eqb, Ok, Err}
 use Rattle.ultra_format.specs.Additions.{values_given}
 use Rattle.byte_layout.specs.Stored.{Bytes}
 use Rattle.refusals.specs.Refusals.{PLACE, REPEAT, SPLIT, FORM, VALUE, TEXT, RANGE, ORDER, FULL, ROOM}
@@ -18,7 +18,6 @@ use Rattle.ultra_format.specs.Places.{single, repeatable}
 use Rattle.ultra_format.specs.Decoding.{pick}
 use Rattle.ultra_format.specs.Plain.{written_size}
 use Rattle.refusals.specs.declared.Refusal.{Refusal}
-use Rattle.refusals.specs.declared.Answer.TheVariants.{Done, Refused}
 use Rattle.ultra_acceptance.specs.Acceptance.{HoldsContext}
 use Rattle.ultra_acceptance.specs.Refusing.{NoneBreaks, Refuses}
 use Rattle.ultra_appending.specs.Appending.{append_check}
@@ -81,11 +80,11 @@ pub data AddRefused (b : List ℕ) (formed : Bool) (given : Body) (n : ℕ) : �
 abbrev pub AddingRefuses : Type 0
 AddingRefuses =
     (b : List ℕ) (formed : Bool) (given : Body) (r : Refusal) → Bytes b
-    → ((added_members b formed given).0 ≡ Refused r) ↔ AddRefused b formed given (number_of (Refused r)) (value_of (Refused r))
+    → ((added_members b formed given).0 ≡ Err r) ↔ AddRefused b formed given (number_of (Err r)) (value_of (Err r))
 
 -- "the buffer and all lent memory are unchanged"
 abbrev pub RefusedAddKeeps : Type 0
-RefusedAddKeeps = (b : List ℕ) (formed : Bool) (given : Body) (r : Refusal) → (added_members b formed given).0 ≡ Refused r
+RefusedAddKeeps = (b : List ℕ) (formed : Bool) (given : Body) (r : Refusal) → (added_members b formed given).0 ≡ Err r
     → (added_members b formed given).1 ≡ b
 
 -- "0 is success, with the used length after it"
@@ -100,15 +99,15 @@ AddingSucceeds =
 abbrev pub EveryAdd : Type 0
 EveryAdd =
     (b : List ℕ) (formed : Bool) (given : Body) → ((i : ℕ) → get_or b i 0 < 256)
-    → ((r : Refusal) × AddRefused b formed given (number_of (Refused r)) (value_of (Refused r)) × (added_members b formed given ≡ (Refused r, b)))
-    ⊎ ((c : Context) × HoldsContext 0 b c × NoneBreaks (AdditionBreaks (room_of b) c formed given) × ((added_members b formed given).0 ≡ Done (used c + written_size given)))
+    → ((r : Refusal) × AddRefused b formed given (number_of (Err r)) (value_of (Err r)) × (added_members b formed given ≡ (Err r, b)))
+    ⊎ ((c : Context) × HoldsContext 0 b c × NoneBreaks (AdditionBreaks (room_of b) c formed given) × ((added_members b formed given).0 ≡ Ok (used c + written_size given)))
 
 -- and only one of these: the table gives an add one answer
 abbrev pub OneAnswer : Type 0
 OneAnswer =
     (b : List ℕ) (formed : Bool) (given : Body) (r : Refusal) → ((i : ℕ) → get_or b i 0 < 256)
-    → AddRefused b formed given (number_of (Refused r)) (value_of (Refused r))
-    → ((s : Refusal) → AddRefused b formed given (number_of (Refused s)) (value_of (Refused s)) → s ≡ r)
+    → AddRefused b formed given (number_of (Err r)) (value_of (Err r))
+    → ((s : Refusal) → AddRefused b formed given (number_of (Err s)) (value_of (Err s)) → s ≡ r)
     × ((c : Context) → HoldsContext 0 b c → NoneBreaks (AdditionBreaks (room_of b) c formed given) → ⊥)
 
 -- "17, 9, 10, 11, 12, 13, 14, 15, 16, 18", in digits: after attributes of these types (the nearest first), with a room, a used length, a

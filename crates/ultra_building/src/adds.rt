@@ -5,21 +5,17 @@ ghost use Rattle.ultra_format.specs.Additions.{Addition};
 ghost use Rattle.ultra_adding.specs.Adding.{added};
 
 use crate::late_members;
-use refusals::Answer;
+use refusals::Refusal;
 use ultra_adding::members;
 use ultra_format::{KernelRecord, ModuleRecord, PlatformRecord};
 
 // Adds a platform; every member has to be present.
-pub fn add_platform(buf: &mut [u8], given: PlatformRecord) -> Answer
+pub fn add_platform(buf: &mut [u8], given: PlatformRecord) -> Result<u32, Refusal>
     ensures { (result, buf.new) ≡ added buf.old (Addition.add_platform given) }
 {
     let complete = late_members::complete(given);
     let name = given.name;
     let length = ultra_arguments::texts::trimmed_length(&name);
-    let base = given.higher_half_base;
-    let depth = given.depth;
-    let dtb = given.dtb;
-    let smbios = given.smbios;
     members::add_platform(
         buf,
         complete,
@@ -28,15 +24,15 @@ pub fn add_platform(buf: &mut [u8], given: PlatformRecord) -> Answer
         given.loader_minor,
         &name[0..length],
         given.rsdp,
-        late_members::wide_number(base),
-        late_members::narrow_number(depth),
-        late_members::wide_number(dtb),
-        late_members::wide_number(smbios),
+        given.higher_half_base.unwrap_or(0),
+        given.depth.unwrap_or(0),
+        given.dtb.unwrap_or(0),
+        given.smbios.unwrap_or(0),
     )
 }
 
 // Adds a kernel.
-pub fn add_kernel(buf: &mut [u8], given: KernelRecord) -> Answer
+pub fn add_kernel(buf: &mut [u8], given: KernelRecord) -> Result<u32, Refusal>
     ensures { (result, buf.new) ≡ added buf.old (Addition.add_kernel given) }
 {
     let disk = given.disk_guid;
@@ -58,7 +54,7 @@ pub fn add_kernel(buf: &mut [u8], given: KernelRecord) -> Answer
 }
 
 // Adds a module.
-pub fn add_module(buf: &mut [u8], given: ModuleRecord) -> Answer
+pub fn add_module(buf: &mut [u8], given: ModuleRecord) -> Result<u32, Refusal>
     ensures { (result, buf.new) ≡ added buf.old (Addition.add_module given) }
 {
     let name = given.name;

@@ -8,16 +8,16 @@ ghost use Rattle.std.specs.Prelude.{◌≡◌};
 ghost use Rattle.ultra_building.specs.Building.{begun};
 
 pub use adds::{add_kernel, add_module, add_platform};
-use refusals::{Answer, Refusal};
+use refusals::Refusal;
 pub use ultra_adding::{add_command_line, add_framebuffer, add_map, members};
 
 // Begins a context without attributes, whatever the buffer holds.
-pub fn begin(buf: &mut [u8]) -> Answer
+pub fn begin(buf: &mut [u8]) -> Result<u32, Refusal>
     ensures { (result, buf.new) ≡ begun buf.old }
 {
     if buf.len() < 8 {
-        return Answer::Refused(Refusal::new(refusals::SHORT, 0));
+        return Err(Refusal::new(refusals::SHORT, 0));
     }
     words::store_u64(buf, 0, 1);
-    Answer::Done(8)
+    Ok(8)
 }

@@ -2,7 +2,7 @@
 use Prim.Native.Nat.{ℕ}
 use mathlib.Core.Path.{◌≡◌, ap, ◌∙◌}
 use mathlib.Core.List.{List}
-use Rattle.refusals.specs.declared.Answer.{Answer}
+use Rattle.refusals.specs.Answers.{Answer}
 use Rattle.ultra_crossing.specs.Crossing.{answer_crossed, crossed}
 
 pub crossing : {n : ℕ} {a : Answer} {q : List ℕ} {r : Answer × List ℕ} → n ≡ answer_crossed a → (a, q) ≡ r → (n, q) ≡ crossed r

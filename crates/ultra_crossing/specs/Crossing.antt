@@ -2,12 +2,9 @@
 -- where the value is the offset, used length, entry count or attribute start".
 -- A reader has to believe this file.
 use Rattle.std.specs.Prelude.{ℕ, ◌+◌, ◌*◌, List}
-use Rattle.refusals.specs.Answers.{number_of, value_of}
-use Rattle.refusals.specs.declared.Answer.{Answer}
-use Rattle.ultra_reading.specs.Reading.{reading_number, reading_value}
-use Rattle.ultra_stepping.specs.Stepping.{step_number, step_value}
-use Rattle.ultra_reading.specs.declared.Reading.{Reading}
-use Rattle.ultra_stepping.specs.declared.cursor.Step.{Step}
+use Rattle.refusals.specs.Answers.{Answer, number_of, value_of}
+use Rattle.ultra_reading.specs.Reading.{reading_number, reading_value, Reading}
+use Rattle.ultra_stepping.specs.Stepping.{step_number, step_value, Step}
 use Rattle.lent_buffers.specs.declared.Part.{Part}
 
 abbrev pub number_and_value : ℕ → ℕ → ℕ

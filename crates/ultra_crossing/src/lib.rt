@@ -5,8 +5,8 @@ ghost use Rattle.std.specs.Prelude.{◌≡◌};
 ghost use Rattle.ultra_crossing.specs.Crossing.{number_and_value, answer_crossed, step_crossed, reading_crossed, part_crossed};
 
 use lent_buffers::Part;
-use refusals::{Answer, Refusal};
-use ultra_reading::{Reading, Step};
+use refusals::Refusal;
+use ultra_reading::{Accepted, Cursor, Header};
 
 // Every refusal crosses here.
 fn of_refusal(refusal: Refusal) -> u64
@@ -15,31 +15,31 @@ fn of_refusal(refusal: Refusal) -> u64
     refusal.number as u64 * 4294967296 + refusal.offset as u64
 }
 
-pub fn of_answer(answer: Answer) -> u64
+pub fn of_answer(answer: Result<u32, Refusal>) -> u64
     ensures { result ≡ answer_crossed answer }
 {
     match answer {
-        Answer::Done(value) => value as u64,
-        Answer::Refused(refusal) => of_refusal(refusal),
+        Ok(value) => value as u64,
+        Err(refusal) => of_refusal(refusal),
     }
 }
 
-pub fn of_reading(reading: Reading) -> u64
+pub fn of_reading(reading: Result<Accepted, Refusal>) -> u64
     ensures { result ≡ reading_crossed reading }
 {
     match reading {
-        Reading::Accepted(_, used) => used as u64,
-        Reading::Refused(refusal) => of_refusal(refusal),
+        Ok(accepted) => accepted.used as u64,
+        Err(refusal) => of_refusal(refusal),
     }
 }
 
-pub fn of_step(step: Step) -> u64
+pub fn of_step(step: Result<Option<(Header, Cursor)>, Refusal>) -> u64
     ensures { result ≡ step_crossed step }
 {
     match step {
-        Step::Attribute(_, next) => next.offset as u64,
-        Step::End => 0,
-        Step::Refused(refusal) => of_refusal(refusal),
+        Ok(Some((_, next))) => next.offset as u64,
+        Ok(None) => 0,
+        Err(refusal) => of_refusal(refusal),
     }
 }
 

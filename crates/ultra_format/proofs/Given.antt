@@ -1,4 +1,5 @@
 -- A record gives back the members that it was made of, and members the record.
+use Rattle.std.specs.Prelude.{Option, Some, None}
 use Prim.Native.Nat.{ℕ, zero, suc, ◌<◌}
 use mathlib.Core.Path.{◌≡◌, refl, ap, ◌∙◌}
 use mathlib.Core.List.{List, [], ◌∷◌}
@@ -9,15 +10,11 @@ use Rattle.byte_layout.specs.Fields.{padded, FieldFits}
 use Rattle.byte_layout.specs.Fields.{Field.text}
 use Rattle.ultra_format.specs.Contexts.{Member, Platform, Kernel, Module}
 use Rattle.ultra_format.specs.Contexts.{Member.present, Member.absent}
-use Rattle.ultra_format.specs.Records.{optional_u64, optional_u8, member_of_u64, member_of_u8, unless_trailing, trimmed, platform_record, kernel_record, module_record, framebuffer_record, platform_given, kernel_given, module_given, framebuffer_given}
+use Rattle.ultra_format.specs.Records.{optional, member_of, unless_trailing, trimmed, platform_record, kernel_record, module_record, framebuffer_record, platform_given, kernel_given, module_given, framebuffer_given}
 use Rattle.ultra_format.specs.declared.records.PlatformRecord.{PlatformRecord}
 use Rattle.ultra_format.specs.declared.records.KernelRecord.{KernelRecord}
 use Rattle.ultra_format.specs.declared.records.ModuleRecord.{ModuleRecord}
 use Rattle.ultra_format.specs.declared.records.FramebufferRecord.{FramebufferRecord}
-use Rattle.ultra_format.specs.declared.records.OptionalU64.{OptionalU64}
-use Rattle.ultra_format.specs.declared.records.OptionalU64.TheVariants as wide
-use Rattle.ultra_format.specs.declared.records.OptionalU8.{OptionalU8}
-use Rattle.ultra_format.specs.declared.records.OptionalU8.TheVariants as narrow
 
 -- ---- texts: the zeros that `padded` puts after one are all that `trimmed` takes away
 zeros_trimmed : (k : ℕ) → trimmed (padded k []) ≡ []
@@ -50,21 +47,13 @@ trimmed_padded (suc k) [] h = absurd (omega arith)
 trimmed_padded (suc k) (x ∷ l) h = first_back k x (trimmed l) ∙ ap (λ (t : List ℕ). x ∷ t) (trimmed_padded k l (omega arith))
 
 -- ---- members
-wide_given : (m : Member) → member_of_u64 (optional_u64 m) ≡ m
-wide_given (present n) = refl
-wide_given absent = refl
+given_member : (m : Member) → member_of (optional m) ≡ m
+given_member (present n) = refl
+given_member absent = refl
 
-narrow_given : (m : Member) → member_of_u8 (optional_u8 m) ≡ m
-narrow_given (present n) = refl
-narrow_given absent = refl
-
-wide_back : (o : OptionalU64) → optional_u64 (member_of_u64 o) ≡ o
-wide_back (wide.Present n) = refl
-wide_back wide.Absent = refl
-
-narrow_back : (o : OptionalU8) → optional_u8 (member_of_u8 o) ≡ o
-narrow_back (narrow.Present n) = refl
-narrow_back narrow.Absent = refl
+given_back : (o : Option ℕ) → optional (member_of o) ≡ o
+given_back (Some n) = refl
+given_back None = refl
 
 -- ---- records
 pub platform_given_law : (p : Platform) → FieldFits (text 32 p.name) → platform_given (platform_record p) ≡ p
@@ -75,10 +64,10 @@ platform_given_law p r =
       loader_minor = p.loader_minor;
       name = text_given 32 p.name r i;
       rsdp = p.rsdp;
-      higher_half_base = wide_given p.higher_half_base i;
-      depth = narrow_given p.depth i;
-      dtb = wide_given p.dtb i;
-      smbios = wide_given p.smbios i;
+      higher_half_base = given_member p.higher_half_base i;
+      depth = given_member p.depth i;
+      dtb = given_member p.dtb i;
+      smbios = given_member p.smbios i;
     }
 
 pub kernel_given_law : (k : Kernel) → FieldFits (text 256 k.path) → kernel_given (kernel_record k) ≡ k
@@ -106,10 +95,10 @@ platform_back r h =
       loader_minor = r.loader_minor;
       name = trimmed_padded 32 r.name h i;
       rsdp = r.rsdp;
-      higher_half_base = wide_back r.higher_half_base i;
-      depth = narrow_back r.depth i;
-      dtb = wide_back r.dtb i;
-      smbios = wide_back r.smbios i;
+      higher_half_base = given_back r.higher_half_base i;
+      depth = given_back r.depth i;
+      dtb = given_back r.dtb i;
+      smbios = given_back r.smbios i;
     }
 
 pub kernel_back : (r : KernelRecord) → length r.path ≡ 256 → kernel_record (kernel_given r) ≡ r

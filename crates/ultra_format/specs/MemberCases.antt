@@ -2,10 +2,9 @@
 -- places is one definition, which reading, adding and the rules of the format share: no theorem that compares these would notice a wrong
 -- one. Numbers are digits here and not names, so that a wrong name is noticed too. The theorems are in proofs/MemberCases.antt.
 -- A reader has to believe this file.
-use Rattle.std.specs.Prelude.{ℕ, ◌≡◌, Bool, true, false, List, [], ◌∷◌, ◌++◌, length, replicate}
+use Rattle.std.specs.Prelude.{ℕ, ◌≡◌, Bool, true, false, List, [], ◌∷◌, ◌++◌, length, replicate, Ok}
 use Rattle.refusals.specs.Refusals.{SHORT, VERSION, COUNT, MISSING, HEADER, SIZE, OVERRUN, TYPE, PLACE, REPEAT, SPLIT, FORM, VALUE, TEXT, RANGE, ORDER, FULL, ROOM, ABSENT}
 use Rattle.refusals.specs.Answers.{refused, number_of, value_of}
-use Rattle.refusals.specs.declared.Answer.TheVariants.{Done}
 use Rattle.ultra_format.specs.Contexts.{Member, Entry, Body}
 use Rattle.ultra_format.specs.Contexts.{Member.present, Member.absent, Body.platform, Body.memory_map, Body.command_line, Body.other}
 use Rattle.lent_buffers.specs.Room.{room_of}
@@ -432,8 +431,8 @@ number_cases =
     ∷ ROOM gives 18
     ∷ ABSENT gives 19
     -- "0 is success, with the used length after it"; "Otherwise a number and an offset"
-    ∷ number_of (Done 576) gives 0
-    ∷ value_of (Done 576) gives 576
+    ∷ number_of (Ok 576) gives 0
+    ∷ value_of (Ok 576) gives 576
     ∷ number_of (refused 12 432) gives 12
     ∷ value_of (refused 12 432) gives 432
     ∷ []

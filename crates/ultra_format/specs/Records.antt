@@ -1,7 +1,7 @@
 -- The records that calls are given and hand back, of the members that a list carries. "bytes of a fixed text from its closing zero on
 -- are given as zero"; an absent platform member "is marked absent, not zero".
 -- A reader has to believe this file.
-use Rattle.std.specs.Prelude.{ℕ, zero, suc, List, [], ◌∷◌}
+use Rattle.std.specs.Prelude.{ℕ, zero, suc, List, [], ◌∷◌, Option, Some, None}
 use Rattle.byte_layout.specs.Fields.{padded}
 use Rattle.ultra_format.specs.Contexts.{Member, Platform, Kernel, Module, Framebuffer, Body}
 use Rattle.ultra_format.specs.Contexts.{Member.present, Member.absent, Body.platform, Body.kernel, Body.memory_map, Body.module_info, Body.command_line, Body.framebuffer, Body.other}
@@ -10,18 +10,11 @@ use Rattle.ultra_format.specs.declared.records.KernelRecord.{KernelRecord}
 use Rattle.ultra_format.specs.declared.records.ModuleRecord.{ModuleRecord}
 use Rattle.ultra_format.specs.declared.records.FramebufferRecord.{FramebufferRecord}
 use Rattle.ultra_format.specs.declared.records.Records.{Records}
-use Rattle.ultra_format.specs.declared.records.OptionalU64.{OptionalU64}
-use Rattle.ultra_format.specs.declared.records.OptionalU64.TheVariants as wide
-use Rattle.ultra_format.specs.declared.records.OptionalU8.{OptionalU8}
-use Rattle.ultra_format.specs.declared.records.OptionalU8.TheVariants as narrow
 
-abbrev pub optional_u64 : Member → OptionalU64
-optional_u64 (present n) = wide.Present n
-optional_u64 absent = wide.Absent
-
-abbrev pub optional_u8 : Member → OptionalU8
-optional_u8 (present n) = narrow.Present n
-optional_u8 absent = narrow.Absent
+-- a member as a record has it, an `Option<u64>` or an `Option<u8>`
+abbrev pub optional : Member → Option ℕ
+optional (present n) = Some n
+optional absent = None
 
 -- `padded` puts the zeros after a text
 abbrev pub platform_record : Platform → PlatformRecord
@@ -32,10 +25,10 @@ platform_record p =
       loader_minor = p.loader_minor;
       name = padded 32 p.name;
       rsdp = p.rsdp;
-      higher_half_base = optional_u64 p.higher_half_base;
-      depth = optional_u8 p.depth;
-      dtb = optional_u64 p.dtb;
-      smbios = optional_u64 p.smbios;
+      higher_half_base = optional p.higher_half_base;
+      depth = optional p.depth;
+      dtb = optional p.dtb;
+      smbios = optional p.smbios;
     }
 
 abbrev pub kernel_record : Kernel → KernelRecord
@@ -112,13 +105,9 @@ records_of (framebuffer f) = records blank_platform blank_kernel blank_module f
 records_of (other t) = blank_records
 
 -- ---- back: the members that a record gives
-abbrev pub member_of_u64 : OptionalU64 → Member
-member_of_u64 (wide.Present n) = present n
-member_of_u64 wide.Absent = absent
-
-abbrev pub member_of_u8 : OptionalU8 → Member
-member_of_u8 (narrow.Present n) = present n
-member_of_u8 narrow.Absent = absent
+abbrev pub member_of : Option ℕ → Member
+member_of (Some n) = present n
+member_of None = absent
 
 -- a byte and what is kept of those after it: a zero before nothing is a trailing one
 abbrev pub unless_trailing : ℕ → List ℕ → List ℕ
@@ -139,10 +128,10 @@ platform_given r =
       loader_minor = r.loader_minor;
       name = trimmed r.name;
       rsdp = r.rsdp;
-      higher_half_base = member_of_u64 r.higher_half_base;
-      depth = member_of_u8 r.depth;
-      dtb = member_of_u64 r.dtb;
-      smbios = member_of_u64 r.smbios;
+      higher_half_base = member_of r.higher_half_base;
+      depth = member_of r.depth;
+      dtb = member_of r.dtb;
+      smbios = member_of r.smbios;
     }
 
 abbrev pub kernel_given : KernelRecord → Kernel

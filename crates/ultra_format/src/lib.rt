@@ -3,7 +3,5 @@
 
 mod records;
 
-pub use records::{
-    FramebufferRecord, KernelRecord, ModuleRecord, OptionalU8, OptionalU64, PlatformRecord, Records,
-};
-pub use refusals::{Answer, Refusal};
+pub use records::{FramebufferRecord, KernelRecord, ModuleRecord, PlatformRecord, Records};
+pub use refusals::Refusal;

@@ -1,20 +1,7 @@
 // The records of document 01's table, by value: what a question hands back and what an add is given. A text has zeros after it up to the
 // end of its array; one given otherwise is refused as 14.
 
-// A platform member "from higher half base on": "An absent one is marked absent, not zero."
-#[derive(Clone, Copy)]
-pub enum OptionalU64 {
-    Present(u64),
-    Absent,
-}
-
-// The same of the depth, which has one byte.
-#[derive(Clone, Copy)]
-pub enum OptionalU8 {
-    Present(u8),
-    Absent,
-}
-
+// Members "from higher half base on" can be absent: "An absent one is marked absent, not zero."
 #[derive(Clone, Copy)]
 pub struct PlatformRecord {
     pub kind: u32,
@@ -22,10 +9,10 @@ pub struct PlatformRecord {
     pub loader_minor: u16,
     pub name: [u8; 32],
     pub rsdp: u64,
-    pub higher_half_base: OptionalU64,
-    pub depth: OptionalU8,
-    pub dtb: OptionalU64,
-    pub smbios: OptionalU64,
+    pub higher_half_base: Option<u64>,
+    pub depth: Option<u8>,
+    pub dtb: Option<u64>,
+    pub smbios: Option<u64>,
 }
 
 #[derive(Clone, Copy)]

@@ -56,6 +56,7 @@ pub fn partition_type(bytes: &[u8], at: usize) -> u64
     words::load_u64(bytes, at + PARTITION_TYPE)
 }
 
+#[tactic(auto, using(byte_layout::proofs::Copies::bytes_whole))]
 fn guid(bytes: &[u8], at: usize) -> [u8; 16]
     requires { at + 16 ≤ length bytes.now }
     ensures { result ≡ bytes_at bytes.now at 16 }

@@ -1,10 +1,8 @@
 // The platform: type 1. The members from the higher half base on are "present exactly if they end within the size".
 ghost use Rattle.std.specs.Prelude.{◌≡◌, ◌+◌, ◌≤◌, length};
 ghost use Rattle.ultra_format.specs.Decoding.{member_at, platform_at};
-ghost use Rattle.ultra_format.specs.Records.{optional_u8, optional_u64};
+ghost use Rattle.ultra_format.specs.Records.{optional};
 ghost use Rattle.ultra_layout.specs.Sizes.{platform_size};
-
-use ultra_format::{OptionalU8, OptionalU64};
 
 pub const LEAST_SIZE: u32 = 56;
 
@@ -65,43 +63,43 @@ pub fn rsdp(bytes: &[u8], at: usize) -> u64
 }
 
 // A member of eight bytes at `offset` in the attribute.
-fn optional(bytes: &[u8], at: usize, size: u32, offset: usize) -> OptionalU64
+fn optional(bytes: &[u8], at: usize, size: u32, offset: usize) -> Option<u64>
     requires { (at + size ≤ length bytes.now) × (offset ≤ 80) }
-    ensures { result ≡ optional_u64 (member_at bytes.now at size offset 8) }
+    ensures { result ≡ optional (member_at bytes.now at size offset 8) }
 {
     if (size as usize) < offset + 8 {
-        return OptionalU64::Absent;
+        return None;
     }
-    OptionalU64::Present(words::load_u64(bytes, at + offset))
+    Some(words::load_u64(bytes, at + offset))
 }
 
-pub fn higher_half_base(bytes: &[u8], at: usize, size: u32) -> OptionalU64
+pub fn higher_half_base(bytes: &[u8], at: usize, size: u32) -> Option<u64>
     requires { at + size ≤ length bytes.now }
-    ensures { result ≡ optional_u64 (platform_at bytes.now at size).higher_half_base }
+    ensures { result ≡ optional (platform_at bytes.now at size).higher_half_base }
 {
     optional(bytes, at, size, HIGHER_HALF_BASE)
 }
 
-pub fn depth(bytes: &[u8], at: usize, size: u32) -> OptionalU8
+pub fn depth(bytes: &[u8], at: usize, size: u32) -> Option<u8>
     requires { at + size ≤ length bytes.now }
-    ensures { result ≡ optional_u8 (platform_at bytes.now at size).depth }
+    ensures { result ≡ optional (platform_at bytes.now at size).depth }
 {
     if (size as usize) < DEPTH + 1 {
-        return OptionalU8::Absent;
+        return None;
     }
-    OptionalU8::Present(bytes[at + DEPTH])
+    Some(bytes[at + DEPTH])
 }
 
-pub fn dtb(bytes: &[u8], at: usize, size: u32) -> OptionalU64
+pub fn dtb(bytes: &[u8], at: usize, size: u32) -> Option<u64>
     requires { at + size ≤ length bytes.now }
-    ensures { result ≡ optional_u64 (platform_at bytes.now at size).dtb }
+    ensures { result ≡ optional (platform_at bytes.now at size).dtb }
 {
     optional(bytes, at, size, DTB)
 }
 
-pub fn smbios(bytes: &[u8], at: usize, size: u32) -> OptionalU64
+pub fn smbios(bytes: &[u8], at: usize, size: u32) -> Option<u64>
     requires { at + size ≤ length bytes.now }
-    ensures { result ≡ optional_u64 (platform_at bytes.now at size).smbios }
+    ensures { result ≡ optional (platform_at bytes.now at size).smbios }
 {
     optional(bytes, at, size, SMBIOS)
 }

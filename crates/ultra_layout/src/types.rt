@@ -1,4 +1,4 @@
-// The types that have a row in the table.
+// The types that have a row in the table. Numbers and no enum: a type is any 32 bits, and those from 7 up are accepted.
 pub const PLATFORM: u32 = 1;
 
 pub const KERNEL: u32 = 2;

@@ -9,6 +9,7 @@ ghost use Rattle.listing_format.specs.Listing.{body_lines, attributes_lines};
 use ultra_layout::{command_line, head, types};
 
 // The attribute of type `kind` in the `size` bytes from `at` on.
+#[tactic(auto, using(ultra_format::proofs::Sizes::platform_least, ultra_format::proofs::Sizes::kernel_least, ultra_format::proofs::Sizes::module_least, ultra_format::proofs::Sizes::framebuffer_least, listing_format::proofs::LineLaws::decoded_other), unfolding(ultra_format::specs::Decoding::decoded, listing_format::specs::Listing::body_lines))]
 fn attribute(out: &mut [u8], to: u32, buf: &[u8], at: usize, size: u32, kind: u32) -> u32
     requires size_in_bounds { (at + size ≤ length buf.now) × (8 ≤ size) }
     requires kind_value { size_suits size (decoded buf.now at size kind) ≡ true }
@@ -40,13 +41,11 @@ pub fn all(out: &mut [u8], to: u32, buf: &[u8]) -> u32
     let count = head::count(buf);
     let mut end = to;
     let mut at = head::WIDTH;
-    let mut i = 0;
-    while i < count {
+    for _ in 0..count {
         let kind = ultra_layout::attribute::kind(buf, at);
         let size = ultra_layout::attribute::size(buf, at);
         end = attribute(out, end, buf, at, size, kind);
         at += size as usize;
-        i += 1;
     }
     end
 }

@@ -23,6 +23,7 @@ pub fn refused(out: &mut [u8], refusal: Refusal) -> u32
 }
 
 // `used` is the used length.
+#[tactic(auto, using(ultra_locating::proofs::Located::head_inside))]
 pub fn accepted(out: &mut [u8], buf: &[u8], used: u32) -> u32
     requires accepts { Accepts buf.now }
     requires used_value { used ≡ used·of (context_of buf.now) }

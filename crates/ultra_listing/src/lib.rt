@@ -8,7 +8,7 @@ ghost use Rattle.std.specs.Prelude.{◌≡◌, length};
 ghost use Rattle.text_output.specs.Output.{puts};
 ghost use Rattle.listing_format.specs.Listing.{listing, listed};
 
-use refusals::{Answer, Refusal};
+use refusals::Refusal;
 
 // Puts the listing from the front of `out` on, as far as it goes, and answers how long it is.
 fn write(out: &mut [u8], buf: &[u8]) -> u32
@@ -16,8 +16,8 @@ fn write(out: &mut [u8], buf: &[u8]) -> u32
 {
     let answer = ultra_reading::used_length(buf, 2);
     match answer {
-        Answer::Refused(refusal) => context::refused(out, refusal),
-        Answer::Done(used) => context::accepted(out, buf, used),
+        Err(refusal) => context::refused(out, refusal),
+        Ok(used) => context::accepted(out, buf, used),
     }
 }
 
@@ -30,11 +30,11 @@ pub fn listing_length(buf: &[u8]) -> u32
 }
 
 // The listing, written over the front of `out`; answers its length. 18 where `out` is too short, and nothing is written.
-pub fn list(buf: &[u8], out: &mut [u8]) -> Answer
+pub fn list(buf: &[u8], out: &mut [u8]) -> Result<u32, Refusal>
     ensures { (result, out.new) ≡ listed buf.now out.old }
 {
     if out.len() < listing_length(buf) as usize {
-        return Answer::Refused(Refusal::new(refusals::ROOM, 0));
+        return Err(Refusal::new(refusals::ROOM, 0));
     }
-    Answer::Done(write(out, buf))
+    Ok(write(out, buf))
 }

@@ -25,44 +25,20 @@ pairless [] = true
 pairless (e ∷ []) = true
 pairless (e ∷ n ∷ es) = false
 
--- of a loop from `at` on, with the entries that `from` a place on are left: what the test leaves of all is what it leaves of those
-abbrev pub Left : (Entry → List Entry → Bool) → (ℕ → List Entry) → ℕ → ℕ → Type 0
-Left test from at place = left_by test (from at) ≡ left_by test (from place)
+-- ---- one entry at a time: what the test on the first of those left says of them all
+module _ (test : Entry → List Entry → Bool) where
+  module _ {l m : List Entry} {e : Entry} (first : l ≡ e ∷ m) where
+    pub stops_here : test e m ≡ false → left_by test l ≡ l
+    unfolding left_by
+    stops_here t = rw (first, t)
 
--- ---- one entry at a time: what the tests on the first of those left say of them all
-module _ {l m r : List Entry} {e n : Entry} (first : l ≡ e ∷ m) (second : m ≡ n ∷ r) where
-  pub untyped : entry_typed e ≡ false → left_by settled l ≡ l
+    pub goes_on : test e m ≡ true → left_by test l ≡ left_by test m
+    unfolding left_by
+    goes_on t = rw (first, t)
+
+  pub stops_at_none : {l : List Entry} → l ≡ [] → left_by test l ≡ l
   unfolding left_by
-  untyped t = rw (first, second, t)
-
-  pub passes_next : entry_typed e ≡ true → ends_by_next e n ≡ false → left_by settled l ≡ l
-  unfolding left_by
-  passes_next t o = rw (first, second, t, o)
-
-  pub is_settled : entry_typed e ≡ true → ends_by_next e n ≡ true → left_by settled l ≡ left_by settled m
-  unfolding left_by
-  is_settled t o = rw (first, second, t, o)
-
-pub last_left : {l m : List Entry} {e : Entry} → l ≡ e ∷ m → m ≡ [] → left_by settled l ≡ l
-unfolding left_by
-last_left first no_second = rw (first, no_second)
-
-module _ {l m : List Entry} {e : Entry} (first : l ≡ e ∷ m) where
-  pub has_no_type : entry_typed e ≡ false → left_by typed_and_fits l ≡ l
-  unfolding left_by
-  has_no_type t = rw (first, t)
-
-  pub is_unfit : entry_typed e ≡ true → entry_fits e ≡ false → left_by typed_and_fits l ≡ l
-  unfolding left_by
-  is_unfit t f = rw (first, t, f)
-
-  pub is_fit : entry_typed e ≡ true → entry_fits e ≡ true → left_by typed_and_fits l ≡ left_by typed_and_fits m
-  unfolding left_by
-  is_fit t f = rw (first, t, f)
-
-pub none_fit : {l : List Entry} → l ≡ [] → left_by typed_and_fits l ≡ l
-unfolding left_by
-none_fit e = rw e
+  stops_at_none e = rw e
 
 -- ---- what a place says of the entries left there: at the end there are none, and at the last there is no second
 pub at_end : (o end : ℕ) (l : List Entry) {e : Entry} {m : List Entry} → (o ≡ end → l ≡ []) → ((o ≡ end → ⊥) → l ≡ e ∷ m) → eqb o end ≡ none l

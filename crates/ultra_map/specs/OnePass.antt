@@ -1,19 +1,19 @@
 -- How one pass over a map's entries tells the first of 13, 15 and 16: three tests, each taken up where the one before it stopped.
 -- Serves the library's own functions and proofs: no published contract or promise rests on it.
-use Rattle.std.specs.Prelude.{ℕ, ◌-◌, ◌/◌, ◌%◌, ◌≤◌, ◌≡◌, Bool, false, ◌&&◌, List, [], ◌∷◌, drop}
+use Rattle.std.specs.Prelude.{ℕ, ◌+◌, ◌-◌, ◌%◌, ◌≤◌, ◌≡◌, Bool, false, ◌&&◌, List, [], ◌∷◌, drop, get_or}
 use Rattle.address_ranges.specs.Ranges.{ends_by}
 use Rattle.ultra_format.specs.Contexts.{Entry}
 use Rattle.ultra_format.specs.Members.{entry_typed, entry_fits}
-use Rattle.ultra_format.specs.Decoding.{pick, entries_at}
+use Rattle.ultra_format.specs.Decoding.{pick}
 use Rattle.ultra_format.specs.Additions.{entries_given}
 
--- from `o` to `end` there are whole entries: of 24 bytes each, or of three numbers
+-- from `o` to `end` there are whole entries, of so many numbers each
 abbrev pub Whole : ℕ → ℕ → ℕ → Type 0
 Whole width o end = (o ≤ end) × ((end - o) % width ≡ 0)
 
--- the entries in the bytes from `o` to `end`; those in the numbers from `o` on
-abbrev pub entries_to : List ℕ → ℕ → ℕ → List Entry
-entries_to b end o = entries_at b o ((end - o) / 24)
+-- the entry in the three numbers from `o` on, and all from there on
+abbrev pub entry_from : List ℕ → ℕ → Entry
+entry_from ns o = record { address = get_or ns o 0; size = get_or ns (o + 1) 0; entry_type = get_or ns (o + 2) 0 }
 
 abbrev pub given_from : List ℕ → ℕ → List Entry
 given_from ns o = entries_given (drop o ns)

@@ -10,7 +10,7 @@ use Rattle.words.proofs.Numbers.{length_numbers, numbers_bytes_law}
 use Rattle.words.proofs.NumberBytes.{length_numbers_bytes, front_bytes}
 use Rattle.byte_layout.specs.Stored.{Bytes, bytes_at, over}
 use Rattle.byte_layout.proofs.Copies.{bytes_taken}
-use Rattle.refusals.specs.declared.Answer.{Answer}
+use Rattle.refusals.specs.Answers.{Answer}
 use Rattle.ultra_map_question.specs.declared.MapNumbers.{MapNumbers}
 use Rattle.ultra_map_question.specs.MapQuestion.{map_copied, map_copied_bytes}
 use Rattle.ultra_map_question.proofs.MapLaws.{Copies}

@@ -1,4 +1,5 @@
 -- Laws of the map question: of the numbers of a map, of where they are, and of what is copied from there.
+use Rattle.std.specs.Prelude.{Ok, Err}
 use Prim.Native.Nat.{ℕ, zero, suc, ◌+◌, ◌*◌, ◌≤◌, ◌<◌}
 use mathlib.Core.Path.{◌≡◌, refl, sym, ap, subst}
 use mathlib.Core.Bool.{Bool, true, false}
@@ -10,13 +11,14 @@ use lib.Dec.{leb}
 use borrow.Author.Tests.{leb-true, le-leb, lt-leb}
 use Rattle.words.specs.Words.{u64_at, numbers_at}
 use Rattle.byte_layout.specs.Stored.{over}
+use Rattle.byte_layout.proofs.Copies.{front_more}
+use Rattle.words.proofs.Numbers.{length_numbers}
+use Rattle.std.proofs.lemmas.Grind.{common_steps}
 use Rattle.refusals.specs.Refusals.{ROOM, ABSENT}
-use Rattle.refusals.specs.Answers.{refusal, refused}
+use Rattle.refusals.specs.Answers.{Answer, refusal, refused}
 use Rattle.ultra_format.specs.Contexts.{Attribute, used}
 use Rattle.ultra_format.specs.Decoding.{pick, entries_at, decoded, start, stored_type, stored_count, stored_attribute, context_of}
 use Rattle.refusals.specs.declared.Refusal.{Refusal}
-use Rattle.refusals.specs.declared.Answer.{Answer}
-use Rattle.refusals.specs.declared.Answer.TheVariants.{Done, Refused}
 use Rattle.ultra_format.proofs.Numbers.{length_entries}
 use Rattle.ultra_reading.specs.Reading.{used_length}
 use Rattle.ultra_locating.specs.Searching.{Found.found, first_in, found_start, of_type}
@@ -34,6 +36,9 @@ numbers_more b o (suc n) =
     let r : o + 8 + 8 * n ≡ o + 8 * suc n = omega arith in
     rw (q, ← r) (ap (λ (l : List ℕ). u64_at b o ∷ l) (numbers_more b (o + 8) n))
 
+-- a loop that copies numbers to the front of a part
+pub ruleset copying = (common_steps, numbers_more, front_more, length_numbers)
+
 -- three numbers are an entry
 pub numbers_stored : (b : List ℕ) (o n : ℕ) → numbers_at b o (3 * n) ≡ numbers (entries_at b o n)
 unfolding numbers_at numbers entries_at
@@ -50,33 +55,33 @@ pub record Copies (b : List ℕ) (n : ℕ) (m : MapNumbers) : Type 0 where
   pub within : m.start + 8 * m.count ≤ length b
   pub room : m.count ≤ n
   pub copied : (out : List ℕ) → length out ≡ n → map_copied b out ≡ (m.answer, over (numbers_at b m.start m.count) out)
-  pub none : (r : Refusal) → m.answer ≡ Refused r → m.count ≡ 0
-  pub all : (k : ℕ) → m.answer ≡ Done k → (o : ℕ) × (a : Attribute) × (first_in (of_type 3) (context_of b) ≡ found o a) × (m.start ≡ o + 8) × (m.count ≡ 3 * k)
+  pub none : (r : Refusal) → m.answer ≡ Err r → m.count ≡ 0
+  pub all : (k : ℕ) → m.answer ≡ Ok k → (o : ℕ) × (a : Attribute) × (first_in (of_type 3) (context_of b) ≡ found o a) × (m.start ≡ o + 8) × (m.count ≡ 3 * k)
 
 -- no success is a refusal
-done_refused : {A : Type 0} (k : ℕ) (r : Refusal) → Done k ≡ Refused r → A
+done_refused : {A : Type 0} (k : ℕ) (r : Refusal) → Ok k ≡ Err r → A
 done_refused k r e = absurd (let z : ◌≡◌ {A = ℕ} 0 1 = cc in omega arith)
 
 module _ (b : List ℕ) (n : ℕ) where
   -- ---- each answer from the facts that lead to it
-  pub numbers_passed : {r : Refusal} → used_length 2 b ≡ Refused r → no_numbers (Refused r) ≡ map_numbers b n
+  pub numbers_passed : {r : Refusal} → used_length 2 b ≡ Err r → no_numbers (Err r) ≡ map_numbers b n
   unfolding map_numbers
   numbers_passed e = rw e
 
-  numbers_read : {u : ℕ} → used_length 2 b ≡ Done u → found_numbers (used (context_of b)) n (first_in (of_type 3) (context_of b)) ≡ map_numbers b n
+  numbers_read : {u : ℕ} → used_length 2 b ≡ Ok u → found_numbers (used (context_of b)) n (first_in (of_type 3) (context_of b)) ≡ map_numbers b n
   unfolding map_numbers
   numbers_read e = rw e
 
-  pub numbers_absent : (u : ℕ) → used_length 2 b ≡ Done u → found_start (first_in (of_type 3) (context_of b)) ≡ 0 → no_numbers (refused ABSENT u) ≡ map_numbers b n
+  pub numbers_absent : (u : ℕ) → used_length 2 b ≡ Ok u → found_start (first_in (of_type 3) (context_of b)) ≡ 0 → no_numbers (refused ABSENT u) ≡ map_numbers b n
   numbers_absent u e z = rw (none_at (of_type 3) b z, ← (used_is_law b (u, e))) at (numbers_read e)
 
   -- ---- and what it says of the copy
-  none_copied : (r : Refusal) → ((out : List ℕ) → length out ≡ n → map_copied b out ≡ (Refused r, out)) → Copies b n (no_numbers (Refused r))
+  none_copied : (r : Refusal) → ((out : List ℕ) → length out ≡ n → map_copied b out ≡ (Err r, out)) → Copies b n (no_numbers (Err r))
   unfolding numbers_at
   none_copied r h = record { within = omega arith; room = omega arith; copied = h; none = λ s e. refl; all = λ k e. done_refused k r (sym e) }
 
   -- there is a map
-  module _ (u : ℕ) (e : used_length 2 b ≡ Done u) (f : FoundAt (of_type 3) b (stored_count b) (first_in (of_type 3) (context_of b))) where
+  module _ (u : ℕ) (e : used_length 2 b ≡ Ok u) (f : FoundAt (of_type 3) b (stored_count b) (first_in (of_type 3) (context_of b))) where
     abbrev at_map : ℕ
     at_map = start b f.index
 
@@ -100,7 +105,7 @@ module _ (b : List ℕ) (n : ℕ) where
     numbers_found h = rw (le-leb (3 * entries) n h) at numbers_entries
 
     copied_found : (out : List ℕ) → length out ≡ n
-        → map_copied b out ≡ pick (leb (3 * entries) n) (Done entries, over (numbers_at b (at_map + 8) (3 * entries)) out) (refused ROOM u, out)
+        → map_copied b out ≡ pick (leb (3 * entries) n) (Ok entries, over (numbers_at b (at_map + 8) (3 * entries)) out) (refused ROOM u, out)
     unfolding map_copied
     copied_found out l =
         rw (e, f.is, entries_said, length_entries b (at_map + 8) entries, l, ← (numbers_stored b (at_map + 8) entries), ← (used_is_law b (u, e)))
@@ -123,21 +128,21 @@ module _ (b : List ℕ) (n : ℕ) where
     found_copied_law : Copies b n (map_numbers b n)
     found_copied_law = subst (Copies b n) numbers_entries (some_copied (leb (3 * entries) n) refl)
 
-  absent_copied : (u : ℕ) → used_length 2 b ≡ Done u → found_start (first_in (of_type 3) (context_of b)) ≡ 0 → (out : List ℕ) → map_copied b out ≡ (refused ABSENT u, out)
+  absent_copied : (u : ℕ) → used_length 2 b ≡ Ok u → found_start (first_in (of_type 3) (context_of b)) ≡ 0 → (out : List ℕ) → map_copied b out ≡ (refused ABSENT u, out)
   unfolding map_copied
   absent_copied u e z out = rw (e, none_at (of_type 3) b z, ← (used_is_law b (u, e)))
 
-  read_copied : (u : ℕ) → used_length 2 b ≡ Done u → (s : ℕ) → found_start (first_in (of_type 3) (context_of b)) ≡ s → Copies b n (map_numbers b n)
+  read_copied : (u : ℕ) → used_length 2 b ≡ Ok u → (s : ℕ) → found_start (first_in (of_type 3) (context_of b)) ≡ s → Copies b n (map_numbers b n)
   read_copied u e zero z = subst (Copies b n) (numbers_absent u e z) (none_copied (refusal ABSENT u) (λ out l. absent_copied u e z out))
   read_copied u e (suc s) z = found_copied_law u e (found_at (of_type 3) b (λ y. omega (arith, y, z)))
 
-  passed_copied : {r : Refusal} → used_length 2 b ≡ Refused r → (out : List ℕ) → map_copied b out ≡ (Refused r, out)
+  passed_copied : {r : Refusal} → used_length 2 b ≡ Err r → (out : List ℕ) → map_copied b out ≡ (Err r, out)
   unfolding map_copied
   passed_copied e out = rw e
 
   either_copied : (u : Answer) → used_length 2 b ≡ u → Copies b n (map_numbers b n)
-  either_copied (Done u) e = read_copied u e _ refl
-  either_copied (Refused r) e = subst (Copies b n) (numbers_passed e) (none_copied r (λ out l. passed_copied e out))
+  either_copied (Ok u) e = read_copied u e _ refl
+  either_copied (Err r) e = subst (Copies b n) (numbers_passed e) (none_copied r (λ out l. passed_copied e out))
 
   pub numbers_copied : Copies b n (map_numbers b n)
   numbers_copied = either_copied (used_length 2 b) refl

@@ -1,16 +1,14 @@
 -- "The map copied out as 64-bit numbers; 19 then 18, both with the used length; elements past the last triple stay. Success answers the
 -- number of entries."
 -- A reader has to believe this file.
-use Rattle.std.specs.Prelude.{ℕ, ◌+◌, ◌-◌, ◌*◌, ◌/◌, List, [], ◌∷◌, length, leb}
+use Rattle.std.specs.Prelude.{ℕ, ◌+◌, ◌-◌, ◌*◌, ◌/◌, List, [], ◌∷◌, length, leb, Ok}
 use Rattle.words.specs.Words.{u32_at, numbers_in, numbers_bytes}
 use Rattle.byte_layout.specs.Stored.{over}
 use Rattle.refusals.specs.Refusals.{ROOM, ABSENT}
-use Rattle.refusals.specs.Answers.{refused}
+use Rattle.refusals.specs.Answers.{Answer, refused}
 use Rattle.ultra_format.specs.Contexts.{Entry, Body, Context, used}
 use Rattle.ultra_format.specs.Contexts.{Body.platform, Body.kernel, Body.memory_map, Body.module_info, Body.command_line, Body.framebuffer, Body.other}
 use Rattle.ultra_format.specs.Decoding.{pick, context_of}
-use Rattle.refusals.specs.declared.Answer.{Answer}
-use Rattle.refusals.specs.declared.Answer.TheVariants.{Done}
 use Rattle.ultra_reading.specs.Reading.{used_length}
 use Rattle.ultra_map_question.specs.declared.MapNumbers.{MapNumbers}
 use Rattle.ultra_locating.specs.Passing.{if_accepted}
@@ -33,7 +31,7 @@ entries_of (other t) = []
 -- the answer and what `out` has afterwards, for entries and for a context of the used length n
 abbrev pub entries_copied : ℕ → List Entry → List ℕ → Answer × List ℕ
 entries_copied n es out =
-    pick (leb (3 * length es) (length out)) (Done (length es), over (numbers es) out) (refused ROOM n, out)
+    pick (leb (3 * length es) (length out)) (Ok (length es), over (numbers es) out) (refused ROOM n, out)
 
 abbrev pub found_copied : ℕ → Found → List ℕ → Answer × List ℕ
 found_copied n none out = (refused ABSENT n, out)
@@ -64,7 +62,7 @@ no_numbers r = record { answer = r; start = 0; count = 0 }
 
 -- those of k entries, of the map attribute at `o`
 abbrev pub numbers_from : ℕ → ℕ → MapNumbers
-numbers_from o k = record { answer = Done k; start = o + 8; count = 3 * k }
+numbers_from o k = record { answer = Ok k; start = o + 8; count = 3 * k }
 
 -- for an output of n numbers and a context of the used length u
 abbrev pub found_numbers : ℕ → ℕ → Found → MapNumbers

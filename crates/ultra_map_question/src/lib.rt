@@ -6,26 +6,26 @@ ghost use Rattle.byte_layout.specs.Stored.{over};
 ghost use Rattle.words.specs.Words.{u32_at, numbers_at};
 ghost use Rattle.ultra_map_question.specs.MapQuestion.{map_copied, map_copied_bytes, entries_stored, no_numbers, map_numbers};
 
-use refusals::{Answer, Refusal};
+use refusals::Refusal;
 use ultra_layout::{attribute, entry, map, types};
 
-// What the question answers, and where the numbers that it copies start and how many they are.
+// What the question answers, and where the numbers that it copies start and how many they are. The answer stands beside them, since reading's
+// refusal is returned unchanged.
 #[derive(Clone, Copy)]
 struct MapNumbers {
-    answer: Answer,
+    answer: Result<u32, Refusal>,
     start: usize,
     count: usize,
 }
 
 // Copies the `n` numbers from `at` on to the front of `out`; what is after them stays.
+#[tactic(auto, using(crate::proofs::MapLaws::copying), unfolding(words::specs::Words::numbers_at))]
 fn copy_numbers(bytes: &[u8], at: usize, n: usize, out: &mut [u64])
     requires { (at + 8 * n ≤ length bytes.now) × (n ≤ length out.old) }
     ensures { out.new ≡ over (numbers_at bytes.now at n) out.old }
 {
-    let mut i = 0;
-    while i < n {
-        out[i] = words::load_u64(bytes, at + 8 * i);
-        i += 1;
+    for (i, number) in out[..n].iter_mut().enumerate() {
+        *number = words::load_u64(bytes, at + 8 * i);
     }
 }
 
@@ -39,7 +39,7 @@ fn entries_at(buf: &[u8], start: u32) -> u32
 }
 
 // The answer alone, with nothing to copy.
-fn no_numbers(answer: Answer) -> MapNumbers
+fn no_numbers(answer: Result<u32, Refusal>) -> MapNumbers
     ensures { result ≡ no_numbers answer }
 {
     MapNumbers {
@@ -54,27 +54,27 @@ fn map_numbers(buf: &[u8], capacity: usize) -> MapNumbers
     ensures { result ≡ map_numbers buf.now capacity }
 {
     let answer = ultra_reading::used_length(buf, 2);
-    let Answer::Done(used) = answer else {
+    let Ok(used) = answer else {
         return no_numbers(answer);
     };
     let start = ultra_locating::first_of_type(buf, types::MEMORY_MAP);
     if start == 0 {
-        return no_numbers(Answer::Refused(Refusal::new(refusals::ABSENT, used)));
+        return no_numbers(Err(Refusal::new(refusals::ABSENT, used)));
     }
     let entries = entries_at(buf, start);
     let count = 3 * entries as usize;
     if capacity < count {
-        return no_numbers(Answer::Refused(Refusal::new(refusals::ROOM, used)));
+        return no_numbers(Err(Refusal::new(refusals::ROOM, used)));
     }
     MapNumbers {
-        answer: Answer::Done(entries),
+        answer: Ok(entries),
         start: start as usize + map::ENTRIES,
         count,
     }
 }
 
 // Copies the map's entries and answers how many there are; elements after the last triple stay.
-pub fn copy_map(buf: &[u8], out: &mut [u64]) -> Answer
+pub fn copy_map(buf: &[u8], out: &mut [u64]) -> Result<u32, Refusal>
     ensures { (result, out.new) ≡ map_copied buf.now out.old }
 {
     let numbers = map_numbers(buf, out.len());
@@ -83,7 +83,7 @@ pub fn copy_map(buf: &[u8], out: &mut [u64]) -> Answer
 }
 
 // The same into bytes, "eight to a number": the output counts whole eights, and bytes after the last triple stay.
-pub fn copy_map_bytes(buf: &[u8], out: &mut [u8]) -> Answer
+pub fn copy_map_bytes(buf: &[u8], out: &mut [u8]) -> Result<u32, Refusal>
     ensures { (result, out.new) ≡ map_copied_bytes buf.now out.old }
 {
     let numbers = map_numbers(buf, out.len() / 8);

@@ -1,5 +1,6 @@
 -- Proofs of the statements in specs/OneByOne.antt: the fold over the modules is the single adds, one after the other, up to the first that
 -- is refused; and there is one such answer and buffer.
+use Rattle.std.specs.Prelude.{Ok, Err}
 use Prim.Native.Nat.{ℕ, zero, suc, ◌+◌, ◌≤◌, ◌<◌}
 use mathlib.Core.Path.{◌≡◌, refl, sym, ap, ◌∙◌, subst}
 use mathlib.Core.Bool.{Bool, true, false}
@@ -10,10 +11,8 @@ use native.Mathlib.Omega.{arith}
 use lib.ListN.{length, take}
 use lib.Dec.{ltb}
 use borrow.Author.Tests.{ltb-true, ltb-false}
-use Rattle.refusals.specs.Answers.{number_of, or_refused}
+use Rattle.refusals.specs.Answers.{Answer, number_of, or_refused}
 use Rattle.refusals.specs.declared.Refusal.{Refusal}
-use Rattle.refusals.specs.declared.Answer.{Answer}
-use Rattle.refusals.specs.declared.Answer.TheVariants.{Done, Refused}
 use Rattle.ultra_format.specs.Contexts.{Body, type_of}
 use Rattle.lent_buffers.specs.Room.{room_of}
 use Rattle.ultra_format.specs.Decoding.{stored_count, types_before}
@@ -31,29 +30,29 @@ use Rattle.ultra_modules.specs.OneByOne.{after_adds, single_add, Accepted, OneBy
 use Rattle.ultra_modules.proofs.StoredBytes.{after_bytes}
 
 -- ---- an add that is refused
-clash : {P : Type 0} {v : ℕ} {r : Refusal} → Done v ≡ Refused r → P
+clash : {P : Type 0} {v : ℕ} {r : Refusal} → Ok v ≡ Err r → P
 clash e = absurd (let z : ◌≡◌ {A = ℕ} 0 1 = cc in omega arith)
 
-same_number : (q r : Refusal) → Refused q ≡ Refused r → q.number ≡ r.number
+same_number : (q r : Refusal) → ◌≡◌ {A = Answer} (Err q) (Err r) → q.number ≡ r.number
 same_number q r e = let s : q ≡ r = cc in ap (λ (w : Refusal). w.number) s
 
 -- its number is not 0
-add_number : (b : List ℕ) (f : Bool) (x : Body) (r : Refusal) → (added_members b f x).0 ≡ Refused r → r.number ≡ 0 → ⊥
+add_number : (b : List ℕ) (f : Bool) (x : Body) (r : Refusal) → (added_members b f x).0 ≡ Err r → r.number ≡ 0 → ⊥
 unfolding added_members append_offset
 add_number b f x r e z = go (used_length 0 b) refl e
   where
-    tried : (n v : ℕ) → (added_at b x (or_refused n v (Done v))).0 ≡ Refused r → ⊥
+    tried : (n v : ℕ) → (added_at b x (or_refused n v (Ok v))).0 ≡ Err r → ⊥
     tried zero v w = clash w
     tried (suc n) v w = omega (arith, same_number _ r w, z)
 
-    go : (a : Answer) → used_length 0 b ≡ a → (added_at b x (append_offset_in b (type_of x) (given_check f x) (written_size x) a)).0 ≡ Refused r → ⊥
-    go (Refused q) u w = used_number 0 b q u (same_number q r w ∙ z)
-    go (Done v) u w = tried (append_check (types_before b (stored_count b)) (room_of b) v (type_of x) (given_check f x) (written_size x)) v w
+    go : (a : Answer) → used_length 0 b ≡ a → (added_at b x (append_offset_in b (type_of x) (given_check f x) (written_size x) a)).0 ≡ Err r → ⊥
+    go (Err q) u w = used_number 0 b q u (same_number q r w ∙ z)
+    go (Ok v) u w = tried (append_check (types_before b (stored_count b)) (room_of b) v (type_of x) (given_check f x) (written_size x)) v w
 
-pub module_number : (b : List ℕ) (m : ModuleRecord) (r : Refusal) → (module_added b m).0 ≡ Refused r → Accepted (module_added b m) → ⊥
+pub module_number : (b : List ℕ) (m : ModuleRecord) (r : Refusal) → (module_added b m).0 ≡ Err r → Accepted (module_added b m) → ⊥
 module_number b m r e z = add_number b true (body_given (add_module m)) r e (sym (ap number_of e) ∙ z)
 
-module_kept : (b : List ℕ) (m : ModuleRecord) (r : Refusal) → (module_added b m).0 ≡ Refused r → (module_added b m).1 ≡ b
+module_kept : (b : List ℕ) (m : ModuleRecord) (r : Refusal) → (module_added b m).0 ≡ Err r → (module_added b m).1 ≡ b
 module_kept b m r e = refused_add_keeps b true (body_given (add_module m)) r e
 
 -- ---- the fold
@@ -80,7 +79,7 @@ adds_none a b =
 
 module _ (a : Answer) (b : List ℕ) (m : ModuleRecord) (ms : List ModuleRecord) where
   -- the next is accepted, and the others are added after it
-  adds_done : (n v : ℕ) (x : Answer) (d : List ℕ) → (module_added b m).0 ≡ Done v → Adds (Done v) (module_added b m).1 ms n x d → Adds a b (m ∷ ms) (suc n) x d
+  adds_done : (n v : ℕ) (x : Answer) (d : List ℕ) → (module_added b m).0 ≡ Ok v → Adds (Ok v) (module_added b m).1 ms n x d → Adds a b (m ∷ ms) (suc n) x d
   unfolding after_adds
   adds_done n v x d e h =
       record {
@@ -101,7 +100,7 @@ module _ (a : Answer) (b : List ℕ) (m : ModuleRecord) (ms : List ModuleRecord)
       ends (suc k) p q = h.last k (omega arith) (omega arith)
 
   -- the next is refused
-  adds_refused : (r : Refusal) → (module_added b m).0 ≡ Refused r → Adds a b (m ∷ ms) zero (Refused r) (module_added b m).1
+  adds_refused : (r : Refusal) → (module_added b m).0 ≡ Err r → Adds a b (m ∷ ms) zero (Err r) (module_added b m).1
   unfolding after_adds
   adds_refused r e =
       record {
@@ -125,15 +124,15 @@ turned a k b (m ∷ ms) = go (module_added b m).0 refl (λ (x : Answer). turned 
     go : (x : Answer) → (module_added b m).0 ≡ x
         → ((y : Answer) → Turned y (k + 1) (module_added b m).1 ms (in_turn module_added y (k + 1) (module_added b m).1 ms))
         → Turned a k b (m ∷ ms) (if_done x (in_turn module_added x (k + 1) (module_added b m).1 ms) (answer_and_count x k, (module_added b m).1))
-    go (Done v) e rest = let h = rest (Done v) in (suc h.0, omega (arith, h.1), adds_done a b m ms h.0 v _ _ e h.2)
-    go (Refused r) e rest = (0, omega arith, adds_refused a b m ms r e)
+    go (Ok v) e rest = let h = rest (Ok v) in (suc h.0, omega (arith, h.1), adds_done a b m ms h.0 v _ _ e h.2)
+    go (Err r) e rest = (0, omega arith, adds_refused a b m ms r e)
 
 pub one_by_one_law : (b : List ℕ) (ms : List ModuleRecord) → OneByOne b ms (modules_added b ms).0 (modules_added b ms).1
 unfolding modules_added
 one_by_one_law b ms =
-    let t = turned (Done 0) 0 b ms in
+    let t = turned (Ok 0) 0 b ms in
     let e : t.0 ≡ (modules_added b ms).0.added = omega (arith, t.1) in
-    let h = subst (λ (n : ℕ). Adds (Done 0) b ms n (modules_added b ms).0.answer (modules_added b ms).1) e t.2 in
+    let h = subst (λ (n : ℕ). Adds (Ok 0) b ms n (modules_added b ms).0.answer (modules_added b ms).1) e t.2 in
     record { within = h.within; accepted = h.accepted; bytes = h.bytes; refused = h.refused; last = h.last; none = h.none }
 
 -- ---- there is no other
@@ -179,7 +178,7 @@ module _ (b : List ℕ) (ms : List ModuleRecord) (n : ℕ) (r : Refusal) where
   met = after_adds b (take n ms)
 
   -- not all were added
-  more_left : (d : List ℕ) → OneByOne b ms (answer_and_count (Refused r) n) d → n < length ms
+  more_left : (d : List ℕ) → OneByOne b ms (answer_and_count (Err r) n) d → n < length ms
   more_left d h = go (length ms) refl (ltb n (length ms)) refl
     where
       go : (k : ℕ) → length ms ≡ k → (t : Bool) → ltb n (length ms) ≡ t → n < length ms
@@ -189,10 +188,10 @@ module _ (b : List ℕ) (ms : List ModuleRecord) (n : ℕ) (r : Refusal) where
           let p : n ≡ suc k = omega (arith, ltb-false n (length ms) u, h.within) in
           absurd (module_number (after_adds b (take k ms)) (module_at ms k) r (sym (h.last k l p)) (h.accepted k (omega arith)))
 
-  told : (d : List ℕ) → OneByOne b ms (answer_and_count (Refused r) n) d → (added_members met true (body_given (add_module (module_at ms n)))).0 ≡ Refused r
+  told : (d : List ℕ) → OneByOne b ms (answer_and_count (Err r) n) d → (added_members met true (body_given (add_module (module_at ms n)))).0 ≡ Err r
   told d h = ap (λ (x : Answer × List ℕ). x.0) (h.refused (more_left d h)).1
 
-  from_single : n < length ms → ((i : ℕ) → i < n → Accepted (single_add b ms i)) → (single_add b ms n).0 ≡ Refused r → OneByOne b ms (answer_and_count (Refused r) n) met
+  from_single : n < length ms → ((i : ℕ) → i < n → Accepted (single_add b ms i)) → (single_add b ms n).0 ≡ Err r → OneByOne b ms (answer_and_count (Err r) n) met
   from_single l each e =
       record {
         within = omega arith;
@@ -212,12 +211,12 @@ modules_refuse b ms n r y =
           (more_left b ms n r _ h, h.accepted, (adding_refuses (met b ms n r) true given r z).0 (told b ms n r _ h)),
       λ h.
           let o = from_single b ms n r h.0 h.1 ((adding_refuses (met b ms n r) true given r z).1 h.2) in
-          sym (ap (λ (p : ModulesAdded × List ℕ). p.0) ((one_by_one_exactly b ms (answer_and_count (Refused r) n) (met b ms n r)).1 o)),
+          sym (ap (λ (p : ModulesAdded × List ℕ). p.0) ((one_by_one_exactly b ms (answer_and_count (Err r) n) (met b ms n r)).1 o)),
     )
 
 -- ---- one or the other
 -- where the answer is a success, all were added
-all_added : (b : List ℕ) (ms : List ModuleRecord) (r : ModulesAdded) (d : List ℕ) (v : ℕ) → OneByOne b ms r d → r.answer ≡ Done v → r.added ≡ length ms
+all_added : (b : List ℕ) (ms : List ModuleRecord) (r : ModulesAdded) (d : List ℕ) (v : ℕ) → OneByOne b ms r d → r.answer ≡ Ok v → r.added ≡ length ms
 all_added b ms r d v h e = go (ltb r.added (length ms)) refl
   where
     go : (t : Bool) → ltb r.added (length ms) ≡ t → r.added ≡ length ms
@@ -233,10 +232,10 @@ every_list b ms y = go (modules_added b ms).0.answer refl
     r = (modules_added b ms).0
 
     go : (a : Answer) → r.answer ≡ a
-        → ((used : ℕ) × (r ≡ answer_and_count (Done used) (length ms)))
-        ⊎ ((n : ℕ) × (w : Refusal) × (r ≡ answer_and_count (Refused w) n) × (n < length ms) × NextRefused b ms n w)
-    go (Done v) e = inl (v, λ i. answer_and_count (e i) (all_added b ms r (modules_added b ms).1 v (one_by_one_law b ms) e i))
-    go (Refused w) e =
-        let q : r ≡ answer_and_count (Refused w) r.added = λ i. answer_and_count (e i) r.added in
+        → ((used : ℕ) × (r ≡ answer_and_count (Ok used) (length ms)))
+        ⊎ ((n : ℕ) × (w : Refusal) × (r ≡ answer_and_count (Err w) n) × (n < length ms) × NextRefused b ms n w)
+    go (Ok v) e = inl (v, λ i. answer_and_count (e i) (all_added b ms r (modules_added b ms).1 v (one_by_one_law b ms) e i))
+    go (Err w) e =
+        let q : r ≡ answer_and_count (Err w) r.added = λ i. answer_and_count (e i) r.added in
         let k = (modules_refuse b ms r.added w y).0 q in
         inr (r.added, w, q, k.0, k.2)

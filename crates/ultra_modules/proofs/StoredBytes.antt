@@ -1,4 +1,5 @@
 -- A buffer of bytes that modules are added to is one of bytes: what is stored are bytes, and the names that are accepted have no other.
+use Rattle.std.specs.Prelude.{Ok, Err}
 use Prim.Native.Nat.{ℕ, zero, suc, ◌+◌, ◌/◌}
 use mathlib.Core.Path.{◌≡◌, refl, ap}
 use mathlib.Core.Bool.{true}
@@ -12,8 +13,7 @@ use Rattle.words.specs.Words.{little_endian, replaced}
 use Rattle.byte_layout.specs.Fields.{Cell, Cell.byte, Cell.silent, Field, Field.number, Field.raw, Field.text, Field.padding}
 use Rattle.byte_layout.specs.Fields.{bytes, silence, padded, text_cells, field_cells, cells, filled}
 use Rattle.byte_layout.specs.Stored.{Bytes}
-use Rattle.refusals.specs.declared.Answer.{Answer}
-use Rattle.refusals.specs.declared.Answer.TheVariants.{Done, Refused}
+use Rattle.refusals.specs.Answers.{Answer}
 use Rattle.refusals.proofs.Chains.{both_hold}
 use Rattle.ultra_format.specs.Contexts.{Body, type_of}
 use Rattle.ultra_format.specs.Layouts.{attribute_fields}
@@ -125,8 +125,8 @@ module_bytes b m y = go (append_offset b (type_of x) (given_check true x) (writt
     x = body_given (add_module m)
 
     go : (a : Answer) → append_offset b (type_of x) (given_check true x) (written_size x) ≡ a → Bytes (added_at b x a).1
-    go (Refused r) e = y
-    go (Done n) e =
+    go (Err r) e = y
+    go (Ok n) e =
         bytes_replaced (counted b) n (length (new_bytes x)) (new_bytes x) (bytes_replaced b 4 4 (little_endian 4 (stored_count b + 1)) y (bytes_little 4 (stored_count b + 1))) (module_stored m (appended_at b (type_of x) (given_check true x) (written_size x) n e).1.sound)
 
 pub after_bytes : (b : List ℕ) (ms : List ModuleRecord) → Bytes b → Bytes (after_adds b ms)

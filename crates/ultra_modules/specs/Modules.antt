@@ -1,8 +1,7 @@
 -- What adding several modules answers, and what it leaves in the buffer: request R-1 of document 02.
 -- A reader has to believe this file.
-use Rattle.std.specs.Prelude.{ℕ, ◌+◌, List, [], ◌∷◌, get_or}
-use Rattle.refusals.specs.declared.Answer.{Answer}
-use Rattle.refusals.specs.declared.Answer.TheVariants.{Done, Refused}
+use Rattle.std.specs.Prelude.{ℕ, ◌+◌, List, [], ◌∷◌, get_or, Ok, Err}
+use Rattle.refusals.specs.Answers.{Answer}
 use Rattle.ultra_format.specs.Records.{blank_module, module_record}
 use Rattle.ultra_format.specs.Additions.{Addition.add_module}
 use Rattle.ultra_format.specs.declared.records.ModuleRecord.{ModuleRecord}
@@ -19,8 +18,8 @@ module_at ms i = get_or ms i (module_record blank_module)
 
 -- the first where an add is accepted, the second where it is refused
 abbrev pub if_done : {X : Type 0} → Answer → X → X → X
-if_done (Done used) more stop = more
-if_done (Refused r) more stop = stop
+if_done (Ok used) more stop = more
+if_done (Err r) more stop = stop
 
 -- "add them in order .. The call stops at the first refusal": what `add` makes of the modules that are left, where the one before answered a
 -- and n were added. What is added to is a buffer here, and a list in demand 2.
@@ -34,4 +33,4 @@ module_added b m = added b (add_module m)
 
 -- the answer with how many were added, and the buffer afterwards. "With no modules it answers 0 with value 0 and doesn't look at the buffer."
 unfoldable pub modules_added : List ℕ → List ModuleRecord → ModulesAdded × List ℕ
-modules_added b ms = in_turn module_added (Done 0) 0 b ms
+modules_added b ms = in_turn module_added (Ok 0) 0 b ms

@@ -4,12 +4,10 @@
 -- those of adding a module."
 -- Proved in proofs/OneByOne.antt: `one_by_one_exactly`, from it `modules_refuse`, and from the two `every_list`.
 -- A reader has to believe this file.
-use Rattle.std.specs.Prelude.{ℕ, zero, suc, ◌≤◌, ◌<◌, ◌≡◌, true, ◌↔◌, ◌⊎◌, List, [], ◌∷◌, length, get_or, take}
+use Rattle.std.specs.Prelude.{ℕ, zero, suc, ◌≤◌, ◌<◌, ◌≡◌, true, ◌↔◌, ◌⊎◌, List, [], ◌∷◌, length, get_or, take, Ok, Err}
 use Rattle.byte_layout.specs.Stored.{Bytes}
-use Rattle.refusals.specs.Answers.{number_of, value_of}
+use Rattle.refusals.specs.Answers.{Answer, number_of, value_of}
 use Rattle.refusals.specs.declared.Refusal.{Refusal}
-use Rattle.refusals.specs.declared.Answer.{Answer}
-use Rattle.refusals.specs.declared.Answer.TheVariants.{Done, Refused}
 use Rattle.ultra_format.specs.Additions.{Addition.add_module, body_given}
 use Rattle.ultra_format.specs.declared.records.ModuleRecord.{ModuleRecord}
 use Rattle.ultra_building.specs.AddingRefusals.{AddRefused}
@@ -41,7 +39,7 @@ pub record OneByOne (b : List ℕ) (ms : List ModuleRecord) (r : ModulesAdded) (
   -- "the same .. answers": where all were added, the last add's
   pub last : (n : ℕ) → length ms ≡ suc n → r.added ≡ suc n → r.answer ≡ (single_add b ms n).0
   -- "With no modules it answers 0 with value 0"
-  pub none : length ms ≡ zero → r.answer ≡ Done 0
+  pub none : length ms ≡ zero → r.answer ≡ Ok 0
 
 -- what is answered and left is just that, of every buffer and every list
 abbrev pub OneByOneExactly : Type 0
@@ -50,14 +48,14 @@ OneByOneExactly = (b : List ℕ) (ms : List ModuleRecord) (r : ModulesAdded) (d 
 -- the add of the module at an index is to be refused with r, after those before it were added
 abbrev pub NextRefused : List ℕ → List ModuleRecord → ℕ → Refusal → Type 0
 NextRefused b ms n r =
-    AddRefused (after_adds b (take n ms)) true (body_given (add_module (module_at ms n))) (number_of (Refused r)) (value_of (Refused r))
+    AddRefused (after_adds b (take n ms)) true (body_given (add_module (module_at ms n))) (number_of (Err r)) (value_of (Err r))
 
 -- "Refusals: those of adding a module": n are added and the next is refused exactly where the adds of the first n are accepted and the table
 -- refuses the add of the next, by that number and value. Of the buffer only that its elements are bytes is assumed.
 abbrev pub ModulesRefuse : Type 0
 ModulesRefuse =
     (b : List ℕ) (ms : List ModuleRecord) (n : ℕ) (r : Refusal) → Bytes b
-    → ((modules_added b ms).0 ≡ answer_and_count (Refused r) n)
+    → ((modules_added b ms).0 ≡ answer_and_count (Err r) n)
     ↔ ((n < length ms) × ((i : ℕ) → i < n → Accepted (single_add b ms i)) × NextRefused b ms n r)
 
 -- from the two: of every buffer of bytes and every list, all are added or the table refuses one. A statement that asked for more would not
@@ -65,5 +63,5 @@ ModulesRefuse =
 abbrev pub EveryList : Type 0
 EveryList =
     (b : List ℕ) (ms : List ModuleRecord) → ((i : ℕ) → get_or b i 0 < 256)
-    → ((used : ℕ) × ((modules_added b ms).0 ≡ answer_and_count (Done used) (length ms)))
-    ⊎ ((n : ℕ) × (r : Refusal) × ((modules_added b ms).0 ≡ answer_and_count (Refused r) n) × (n < length ms) × NextRefused b ms n r)
+    → ((used : ℕ) × ((modules_added b ms).0 ≡ answer_and_count (Ok used) (length ms)))
+    ⊎ ((n : ℕ) × (r : Refusal) × ((modules_added b ms).0 ≡ answer_and_count (Err r) n) × (n < length ms) × NextRefused b ms n r)

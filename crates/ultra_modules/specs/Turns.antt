@@ -1,15 +1,14 @@
 -- A turn of the loop over the modules.
 -- Serves the library's own functions and proofs: no published contract or promise rests on it.
-use Rattle.std.specs.Prelude.{ℕ, ◌+◌, Bool, false, List, ltb}
-use Rattle.refusals.specs.declared.Answer.{Answer}
-use Rattle.refusals.specs.declared.Answer.TheVariants.{Done}
+use Rattle.std.specs.Prelude.{ℕ, ◌+◌, Bool, false, List, ltb, Ok}
+use Rattle.refusals.specs.Answers.{Answer}
 use Rattle.ultra_format.specs.declared.records.ModuleRecord.{ModuleRecord}
 use Rattle.ultra_modules.specs.declared.ModulesAdded.{ModulesAdded}
 use Rattle.ultra_modules.specs.Modules.{answer_and_count, if_done, module_added}
 
 -- before the first module
 abbrev pub none_yet : ModulesAdded
-none_yet = answer_and_count (Done 0) 0
+none_yet = answer_and_count (Ok 0) 0
 
 -- whether a module is left to add
 abbrev pub goes_on : ModulesAdded → ℕ → Bool

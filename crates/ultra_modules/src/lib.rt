@@ -5,13 +5,13 @@ ghost use Rattle.std.specs.Prelude.{◌≡◌, ◌+◌, ◌<◌, ◌^◌, length
 ghost use Rattle.ultra_modules.specs.Modules.{module_at, modules_added};
 ghost use Rattle.ultra_modules.specs.Turns.{none_yet, goes_on, next_added};
 
-use refusals::Answer;
+use refusals::Refusal;
 use ultra_format::ModuleRecord;
 
-// What was answered, and how many modules were added.
+// What was answered, and how many modules were added, which is told beside a refusal too.
 #[derive(Clone, Copy)]
 pub struct ModulesAdded {
-    pub answer: Answer,
+    pub answer: Result<u32, Refusal>,
     pub added: usize,
 }
 
@@ -20,7 +20,7 @@ fn none_yet() -> ModulesAdded
     ensures { result ≡ none_yet }
 {
     ModulesAdded {
-        answer: Answer::Done(0),
+        answer: Ok(0),
         added: 0,
     }
 }
@@ -31,8 +31,8 @@ fn goes_on(so_far: ModulesAdded, count: usize) -> bool
 {
     let answer = so_far.answer;
     match answer {
-        Answer::Done(_) => so_far.added < count,
-        Answer::Refused(_) => false,
+        Ok(_) => so_far.added < count,
+        Err(_) => false,
     }
 }
 
@@ -44,12 +44,12 @@ fn add_next(buf: &mut [u8], given: ModuleRecord, so_far: ModulesAdded) -> Module
     let answer = ultra_building::add_module(&mut *buf, given);
     let one_more = so_far.added + 1;
     match answer {
-        Answer::Done(used) => ModulesAdded {
-            answer: Answer::Done(used),
+        Ok(used) => ModulesAdded {
+            answer: Ok(used),
             added: one_more,
         },
-        Answer::Refused(refusal) => ModulesAdded {
-            answer: Answer::Refused(refusal),
+        Err(refusal) => ModulesAdded {
+            answer: Err(refusal),
             added: so_far.added,
         },
     }

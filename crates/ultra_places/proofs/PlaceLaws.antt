@@ -1,5 +1,5 @@
 -- Laws of the tests 9 to 11: each answer from the facts that lead to it; of the types before an attribute, and of a search among them.
-use Prim.Native.Nat.{ℕ, zero, suc, ◌+◌, ◌≤◌, ◌<◌}
+use Prim.Native.Nat.{ℕ, zero, suc, ◌+◌, ◌-◌, ◌≤◌, ◌<◌}
 use mathlib.Core.Path.{◌≡◌, refl, sym, ap, subst, ◌∙◌}
 use mathlib.Core.Bool.{Bool, true, false, not, ◌||◌, and-false, or-false}
 use mathlib.Core.List.{List}
@@ -8,12 +8,14 @@ use native.Mathlib.Omega.{arith}
 use native.Mathlib.Numerals.{add-one}
 use native.Mathlib.Nat.{add-zero, zero-add, not-suc-le-zero, eq-or-lt_of_le, le_of_suc-le-suc}
 use lib.ListN.{length}
-use lib.Dec.{leb, eqb}
-use borrow.Author.Tests.{le-leb, lt-leb, eqb-true, eqb-false, eq-eqb, ne_eqb}
+use lib.Dec.{eqb}
+use borrow.Author.Tests.{eqb-true, eq-eqb, ne_eqb}
 use Rattle.ultra_format.specs.Places.{placed, single, repeatable, occurs, nearest, place_check}
 use Rattle.ultra_format.specs.Decoding.{pick, start, stored_type, types_before}
 use Rattle.ultra_stepping.specs.Walking.{first_of_type}
-use Rattle.ultra_stepping.proofs.WalkLaws.{after_head}
+use Rattle.std.proofs.lemmas.Grind.{common_steps}
+use Rattle.std.proofs.lemmas.Bool.Decides.{nat_tests}
+use Rattle.ultra_stepping.proofs.WalkLaws.{after_head, header_in}
 
 -- ---- the index
 pub placed_first : (i t : ℕ) → i ≡ 0 → eqb t 1 ≡ placed i t
@@ -32,28 +34,13 @@ placed_later (suc (suc i)) t n m = refl
 
 -- ---- kinds of types
 pub low_single : (t : ℕ) → t < 3 → single t ≡ false
-low_single t h = simp (ne_eqb t 3 (λ e. omega arith), ne_eqb t 5 (λ e. omega arith), ne_eqb t 6 (λ e. omega arith))
+low_single t h = grind (arith, nat_tests)
 
 pub low_repeatable : (t : ℕ) → t < 3 → repeatable t ≡ false
-low_repeatable t h = simp (ne_eqb t 4 (λ e. omega arith), lt-leb 7 t (omega arith))
-
-clash : {P : Type 0} → true ≡ false → P
-clash e = absurd (let z : ◌≡◌ {A = ℕ} 0 1 = cc in omega arith)
+low_repeatable t h = grind (arith, nat_tests)
 
 pub high_repeatable : (t : ℕ) → 3 ≤ t → single t ≡ false → repeatable t ≡ true
-high_repeatable t h = go (eqb t 3) (eqb t 5) (eqb t 6) (eqb t 4) refl refl refl refl
-  where
-    go : (x y z w : Bool) → eqb t 3 ≡ x → eqb t 5 ≡ y → eqb t 6 ≡ z → eqb t 4 ≡ w → (x || y || z) ≡ false → (w || leb 7 t) ≡ true
-    go true y z w p q r u e = clash e
-    go false true z w p q r u e = clash e
-    go false false true w p q r u e = clash e
-    go false false false true p q r u e = refl
-    go false false false false p q r u e =
-        let n3 = eqb-false t 3 p in
-        let n5 = eqb-false t 5 q in
-        let n6 = eqb-false t 6 r in
-        let n4 = eqb-false t 4 u in
-        le-leb 7 t (omega arith)
+high_repeatable t h s = grind (arith, nat_tests)
 
 -- ---- the answers
 module _ (before : List ℕ) (t : ℕ) where
@@ -96,6 +83,11 @@ pub nearest_next : (b : List ℕ) (i : ℕ) → nearest (types_before b (i + 1))
 unfolding types_before
 nearest_next b i = rw add-one
 
+pub nearest_last : (b : List ℕ) (n : ℕ) → 0 < n → nearest (types_before b n) ≡ stored_type b (n - 1)
+unfolding types_before
+nearest_last b zero h = absurd (omega arith)
+nearest_last b (suc n) h = let q : suc n - 1 ≡ n = omega arith in rw q
+
 pub occurs_next : (b : List ℕ) (t i : ℕ) → (stored_type b i ≡ t → ⊥) → occurs t (types_before b i) ≡ false → occurs t (types_before b (i + 1)) ≡ false
 unfolding types_before occurs
 occurs_next b t i n e = rw add-one (simp (ne_eqb (stored_type b i) t n, e))
@@ -132,3 +124,10 @@ module _ (b : List ℕ) (t : ℕ) where
   pub found_is : (n : ℕ) → not (eqb (first_of_type b t 0 n) 0) ≡ occurs t (types_before b n)
   unfolding types_before occurs
   found_is n = sym (or-false _) ∙ found_from 0 n ∙ ap (λ (k : ℕ). occurs t (types_before b k)) (zero-add n)
+
+-- ---- what the functions go by
+pub ruleset indices = (common_steps, placed_first, placed_second, placed_later)
+
+pub ruleset answers = (common_steps, length_types, stop_place, pass_low, stop_repeat, pass_new, pass_neighbour, stop_split)
+
+pub ruleset last = (common_steps, nearest_first, nearest_last, header_in)

@@ -1,4 +1,5 @@
 -- What request R-5 changed: by whether a line is found.
+use Rattle.std.specs.Prelude.{Ok, Err}
 use Prim.Native.Nat.{ℕ}
 use mathlib.Core.Path.{◌≡◌, refl, sym, ap, ap₂, ◌∙◌, subst}
 use mathlib.Core.List.{List, []}
@@ -7,8 +8,7 @@ use Rattle.byte_layout.specs.Stored.{bytes_at}
 use Rattle.lent_buffers.specs.declared.Part.{Part}
 use Rattle.lent_buffers.specs.LentParts.{no_part, PartOf, WholeOf}
 use Rattle.ultra_format.specs.Decoding.{context_of}
-use Rattle.refusals.specs.declared.Answer.{Answer}
-use Rattle.refusals.specs.declared.Answer.TheVariants.{Done, Refused}
+use Rattle.refusals.specs.Answers.{Answer}
 use Rattle.ultra_reading.specs.Reading.{used_length}
 use Rattle.ultra_locating.specs.Passing.{if_accepted}
 use Rattle.ultra_locating.specs.Searching.{Found, Found.none, Found.found}
@@ -40,8 +40,8 @@ unfolding line_found
 unmoved b = go (used_length 2 b)
   where
     go : (u : Answer) → found_part (if_accepted (λ r. none) (line_in (context_of b)) u) ≡ if_accepted (λ r. no_part) (command_line_in (context_of b)) u
-    go (Done n) = refl
-    go (Refused r) = refl
+    go (Ok n) = refl
+    go (Err r) = refl
 
 was_handed : (before s : Bor (List ℕ)) → HandedBackBefore before s → PartOf before s (found_part (line_found s.now))
 was_handed before s q = subst (PartOf before s) (sym (unmoved s.now)) q

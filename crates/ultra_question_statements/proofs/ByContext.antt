@@ -1,4 +1,5 @@
 -- Each question answers by the context that the buffer holds: reading accepts the buffer, and what is decoded from it is that context.
+use Rattle.std.specs.Prelude.{Ok}
 use Prim.Native.Nat.{ℕ}
 use mathlib.Core.Path.{◌≡◌, refl, sym, ap, ◌∙◌, subst}
 use mathlib.Core.Bool.{Bool, true, false}
@@ -11,7 +12,6 @@ use Rattle.byte_layout.specs.Stored.{bytes_at}
 use Rattle.ultra_format.specs.Contexts.{Attribute, Context, used}
 use Rattle.lent_buffers.specs.Room.{room_of}
 use Rattle.ultra_format.specs.Decoding.{start, context_of}
-use Rattle.refusals.specs.declared.Answer.TheVariants.{Done}
 use Rattle.ultra_format.proofs.Decoded.{count_decoded, start_decoded, at_decoded, decoded_only}
 use Rattle.ultra_reading.specs.Reading.{used_length}
 use Rattle.ultra_acceptance.specs.Acceptance.{HoldsContext}
@@ -43,7 +43,7 @@ module _ (b : List ℕ) (h : HoldsContext 2 b (context_of b)) where
   line_text_law : let p = command_line_in (context_of b) in bytes_at b p.start p.length ≡ text_in [] (context_of b)
   line_text_law = found_text_law (eqb (found_start (line_in (context_of b))) 0) refl
 
-module _ (b : List ℕ) (c : Context) (h : HoldsContext 2 b (context_of b)) (e : used_length 2 b ≡ Done (used c)) (q : context_of b ≡ c) where
+module _ (b : List ℕ) (c : Context) (h : HoldsContext 2 b (context_of b)) (e : used_length 2 b ≡ Ok (used c)) (q : context_of b ≡ c) where
   found_is : line_found b ≡ line_in c
   unfolding line_found
   found_is = rw (e, q)

@@ -1,5 +1,6 @@
 -- The questions that look for an attribute answer by its index: they answer by the context, in which the first attribute that meets a
 -- test is the one with the least index.
+use Rattle.std.specs.Prelude.{Ok}
 use Prim.Native.Nat.{ℕ, ◌+◌, ◌*◌, ◌/◌, ◌≤◌, ◌<◌}
 use mathlib.Core.Path.{◌≡◌, refl, sym, ap, ◌∙◌}
 use mathlib.Core.Bool.{Bool, true, false}
@@ -19,7 +20,6 @@ use Rattle.ultra_format.specs.Contexts.{Body.platform, Body.kernel, Body.memory_
 use Rattle.lent_buffers.specs.Room.{room_of}
 use Rattle.ultra_format.specs.Layouts.{entries_fields}
 use Rattle.ultra_format.specs.Rules.{Meets}
-use Rattle.refusals.specs.declared.Answer.TheVariants.{Done}
 use Rattle.refusals.proofs.Chains.{both_hold}
 use Rattle.lent_buffers.specs.LentParts.{part, no_part}
 use Rattle.ultra_questions.specs.Parts.{body_part, part_bytes}
@@ -88,10 +88,10 @@ module _ (c : Context) (a : ℕ) where
   start_said : ModuleStart (HoldsAddress a) c (found_start (first_in (holding a) c))
   start_said = said (outcome (holding a) 8 c.attributes)
 
-  modules_said : (o : ℕ) → (module_in c a ≡ Done o) ↔ ModuleStart (HoldsAddress a) c o
-  modules_said o = (λ e. let q : found_start (first_in (holding a) c) ≡ o = cc in rw q at start_said, λ s. ap Done (said_once (HoldsAddress a) c _ o start_said s))
+  modules_said : (o : ℕ) → (module_in c a ≡ Ok o) ↔ ModuleStart (HoldsAddress a) c o
+  modules_said o = (λ e. let q : found_start (first_in (holding a) c) ≡ o = cc in rw q at start_said, λ s. ap Ok (said_once (HoldsAddress a) c _ o start_said s))
 
-  no_module_law : (module_in c a ≡ Done 0) ↔ NoModule (HoldsAddress a) c
+  no_module_law : (module_in c a ≡ Ok 0) ↔ NoModule (HoldsAddress a) c
   no_module_law = (λ e. none_said (HoldsAddress a) c ((modules_said 0).0 e), λ n. (modules_said 0).1 (inl (refl, n)))
 
 -- ---- the map's numbers as bytes
@@ -107,7 +107,7 @@ length_triples [] = refl
 length_triples (e ∷ es) = let q = length_triples es in omega arith
 
 module _ (room : ℕ) (c : Context) (m : Meets 2 room c) where
-  map_is : (i : ℕ) (es : List Entry) (out : List ℕ) → i < count c → body_at c i ≡ memory_map es → 3 * length es ≤ length out → map_in c out ≡ (Done (length es), over (numbers es) out)
+  map_is : (i : ℕ) (es : List Entry) (out : List ℕ) → i < count c → body_at c i ≡ memory_map es → 3 * length es ≤ length out → map_in c out ≡ (Ok (length es), over (numbers es) out)
   map_is i es out h e k = rw (found_type room c m 3 refl i h (ap type_of e), e, le-leb (3 * length es) (length out) k)
 
   line_is : (i : ℕ) (t : List ℕ) → i < count c → body_at c i ≡ command_line t → (command_line_in c ≡ part (start_in c.attributes i + 8) (length t)) × ((board : List ℕ) → text_in board c ≡ t)
@@ -129,7 +129,7 @@ questions_by_index b c h =
       map_bytes =
           λ i es out y l e k.
           let w = map_is (room_of b) c m i es (numbers_in out) l e (omega (arith, length_numbers out 0 (length out / 8))) in
-          rw (q.maps (numbers_in out), w) (ap (λ (x : List ℕ). (Done (length es), x)) (over_numbers b out y (numbers es) (omega (arith, length_triples es)) ∙ ap (λ (x : List ℕ). over x out) (bytes_numbers es)));
+          rw (q.maps (numbers_in out), w) (ap (λ (x : List ℕ). (Ok (length es), x)) (over_numbers b out y (numbers es) (omega (arith, length_triples es)) ∙ ap (λ (x : List ℕ). over x out) (bytes_numbers es)));
       line = λ i t l e. let w = line_is (room_of b) c m i t l e in (q.line ∙ w.0, w.1);
       no_line = λ n. let w = no_line_law (room_of b) c m n in (q.line ∙ w.0, w.1);
     }

@@ -1,4 +1,5 @@
 -- What the questions answer of every buffer, from the statements on one that holds a list and on one that is refused: there is no other.
+use Rattle.std.specs.Prelude.{Ok, Err}
 use Prim.Native.Nat.{ℕ, ◌+◌, ◌*◌, ◌/◌, ◌≤◌, ◌<◌}
 use mathlib.Core.Path.{◌≡◌, refl, sym, ap, ◌∙◌, subst}
 use mathlib.Core.Bool.{Bool, true, false}
@@ -12,17 +13,14 @@ use denote.Ref.{Bor}
 use Rattle.byte_layout.specs.Stored.{over}
 use Rattle.words.specs.Words.{numbers_in}
 use Rattle.refusals.specs.Refusals.{COUNT, ROOM, ABSENT}
-use Rattle.refusals.specs.Answers.{refusal, refused}
+use Rattle.refusals.specs.Answers.{Answer, refusal, refused}
 use Rattle.ultra_format.specs.Contexts.{Entry, Module, Body, type_of, Context, count, attribute_at, body_at, type_at, start_in, used}
 use Rattle.ultra_format.specs.Contexts.{Body.platform, Body.kernel, Body.memory_map, Body.module_info, Body.command_line, Body.framebuffer, Body.other}
 use Rattle.lent_buffers.specs.Room.{room_of}
 use Rattle.ultra_format.specs.Rules.{TypeSuits, Meets}
 use Rattle.ultra_format.specs.Decoding.{pick}
 use Rattle.refusals.specs.declared.Refusal.{Refusal}
-use Rattle.refusals.specs.declared.Answer.{Answer}
-use Rattle.refusals.specs.declared.Answer.TheVariants.{Done, Refused}
 use Rattle.ultra_reading.specs.Reading.{used_length, with_version, version_of, reading_of}
-use Rattle.ultra_reading.specs.declared.Reading.TheVariants as reading
 use Rattle.ultra_acceptance.specs.Acceptance.{HoldsContext}
 use Rattle.ultra_acceptance.proofs.Acceptance.{accepts_exactly}
 use Rattle.ultra_questions.specs.declared.attributes.AttributeAnswer.{AttributeAnswer}
@@ -48,54 +46,54 @@ use Rattle.ultra_question_statements.proofs.ByIndex.{none_said, questions_by_ind
 use Rattle.ultra_question_statements.proofs.LastPage.{last_page_law}
 use Rattle.ultra_question_statements.proofs.MapAsBytes.{map_as_bytes}
 
-same_refusal : {r s : Refusal} → Refused r ≡ Refused s → r ≡ s
+same_refusal : {r s : Refusal} → ◌≡◌ {A = Answer} (Err r) (Err s) → r ≡ s
 same_refusal e = cc
 
 module _ (b : List ℕ) (y : (i : ℕ) → get_or b i 0 < 256) where
   -- a buffer is refused or holds a list
   abbrev Either : Type 0
-  Either = ((r : Refusal) × (used_length 2 b ≡ Refused r)) ⊎ ((c : Context) × HoldsContext 2 b c)
+  Either = ((r : Refusal) × (used_length 2 b ≡ Err r)) ⊎ ((c : Context) × HoldsContext 2 b c)
 
   either : Either
   either = go (used_length 2 b) refl
     where
       go : (u : Answer) → used_length 2 b ≡ u → Either
-      go (Done n) e = let h = (accepts_exactly 2 b n y).0 e in inr (h.0, h.1)
-      go (Refused r) e = inl (r, e)
+      go (Ok n) e = let h = (accepts_exactly 2 b n y).0 e in inr (h.0, h.1)
+      go (Err r) e = inl (r, e)
 
   -- what reading refuses
-  read_refused : (r : Refusal) → used_length 2 b ≡ Refused r → reading_of b ≡ reading.Refused r
+  read_refused : (r : Refusal) → used_length 2 b ≡ Err r → reading_of b ≡ Err r
   unfolding reading_of
   read_refused r e = rw e
 
-  refused_read : (r : Refusal) → reading_of b ≡ reading.Refused r → used_length 2 b ≡ Refused r
+  refused_read : (r : Refusal) → reading_of b ≡ Err r → used_length 2 b ≡ Err r
   unfolding reading_of
   refused_read r e = go (used_length 2 b) refl e
     where
-      go : (u : Answer) → used_length 2 b ≡ u → with_version (version_of b) u ≡ reading.Refused r → used_length 2 b ≡ Refused r
-      go (Done n) k q = absurd (let z : ◌≡◌ {A = ℕ} 0 1 = cc in omega arith)
-      go (Refused s) k q = let w : s ≡ r = cc in k ∙ ap Refused w
+      go : (u : Answer) → used_length 2 b ≡ u → with_version (version_of b) u ≡ Err r → used_length 2 b ≡ Err r
+      go (Ok n) k q = absurd (let z : ◌≡◌ {A = ℕ} 0 1 = cc in omega arith)
+      go (Err s) k q = let w : s ≡ r = cc in k ∙ ap Err w
 
   -- a question that passes reading's refusal on and else has its own
-  module _ (x : Answer) (r : Refusal) (own : Context → Type 0) (passed : (s : Refusal) → used_length 2 b ≡ Refused s → x ≡ Refused s) (asked : (c : Context) → HoldsContext 2 b c → (x ≡ Refused r) ↔ own c) where
-    why : Either → x ≡ Refused r → RefusedBy b r own
-    why (inl (s, e)) q = inl (read_refused s e ∙ ap reading.Refused (same_refusal (sym (passed s e) ∙ q)))
+  module _ (x : Answer) (r : Refusal) (own : Context → Type 0) (passed : (s : Refusal) → used_length 2 b ≡ Err s → x ≡ Err s) (asked : (c : Context) → HoldsContext 2 b c → (x ≡ Err r) ↔ own c) where
+    why : Either → x ≡ Err r → RefusedBy b r own
+    why (inl (s, e)) q = inl (read_refused s e ∙ ap Err (same_refusal (sym (passed s e) ∙ q)))
     why (inr (c, h)) q = inr (c, h, (asked c h).0 q)
 
-    because : RefusedBy b r own → x ≡ Refused r
+    because : RefusedBy b r own → x ≡ Err r
     because (inl e) = passed r (refused_read r e)
     because (inr (c, h, k)) = (asked c h).1 k
 
-    refuses : (x ≡ Refused r) ↔ RefusedBy b r own
+    refuses : (x ≡ Err r) ↔ RefusedBy b r own
     refuses = (why either, because)
 
   -- a success is not what was passed on
-  held : (x : Answer) (n : ℕ) → ((s : Refusal) → used_length 2 b ≡ Refused s → x ≡ Refused s) → x ≡ Done n → Either → (c : Context) × HoldsContext 2 b c
+  held : (x : Answer) (n : ℕ) → ((s : Refusal) → used_length 2 b ≡ Err s → x ≡ Err s) → x ≡ Ok n → Either → (c : Context) × HoldsContext 2 b c
   held x n passed e (inl (s, q)) = absurd (done_refused n s (sym e ∙ passed s q))
   held x n passed e (inr h) = h
 
 -- ---- a map question that is not refused has a map, and it fits
-module _ (room : ℕ) (c : Context) (m : Meets 2 room c) (x : Answer) (capacity n : ℕ) (asked : (r : Refusal) → (x ≡ Refused r) ↔ MapRefused c capacity r) (e : x ≡ Done n) where
+module _ (room : ℕ) (c : Context) (m : Meets 2 room c) (x : Answer) (capacity n : ℕ) (asked : (r : Refusal) → (x ≡ Err r) ↔ MapRefused c capacity r) (e : x ≡ Ok n) where
   never : (r : Refusal) → MapRefused c capacity r → ⊥
   never r k = done_refused n r (sym e ∙ (asked r).1 k)
 
@@ -126,8 +124,8 @@ line_body (framebuffer f) u e = absurd (omega arith)
 line_body (other t) u e = absurd (omega arith)
 
 -- the answer of a success, and what is left
-count_said : (x : Answer × List ℕ) (k n : ℕ) (l : List ℕ) → x ≡ (Done k, l) → x.0 ≡ Done n → n ≡ k
-count_said x k n l e q = let w : Done n ≡ Done k = sym q ∙ ap (λ (z : Answer × List ℕ). z.0) e in cc
+count_said : (x : Answer × List ℕ) (k n : ℕ) (l : List ℕ) → x ≡ (Ok k, l) → x.0 ≡ Ok n → n ≡ k
+count_said x k n l e q = let w : Ok n ≡ Ok k = sym q ∙ ap (λ (z : Answer × List ℕ). z.0) e in cc
 
 -- ---- what is asked of a module may be said otherwise
 module _ (c : Context) {P Q : Module → Type 0} (to : (i : ℕ) (m : Module) → ModuleAt c i m → P m → Q m) (back : (i : ℕ) (m : Module) → ModuleAt c i m → Q m → P m) where
@@ -139,22 +137,22 @@ module _ (c : Context) {P Q : Module → Type 0} (to : (i : ℕ) (m : Module) �
 
 -- ---- from the statements alone
 module _ (refuse : QuestionsRefuseExactly) (pass : RefusalsPassOn) (by_context : QuestionsByContext) (by_index : QuestionsByIndex) (last_page : LastPage) (copies : CopiesBytes) (b : List ℕ) (y : (i : ℕ) → get_or b i 0 < 256) where
-  bytes_pass : (out : List ℕ) (s : Refusal) → used_length 2 b ≡ Refused s → (map_copied_bytes b out).0 ≡ Refused s
+  bytes_pass : (out : List ℕ) (s : Refusal) → used_length 2 b ≡ Err s → (map_copied_bytes b out).0 ≡ Err s
   unfolding map_copied_bytes
   bytes_pass out s e = ap (λ (z : Answer × List ℕ). z.0) ((pass b s e).maps (numbers_in out))
 
-  map_pass : (out : List ℕ) (s : Refusal) → used_length 2 b ≡ Refused s → (map_copied b out).0 ≡ Refused s
+  map_pass : (out : List ℕ) (s : Refusal) → used_length 2 b ≡ Err s → (map_copied b out).0 ≡ Err s
   map_pass out s e = ap (λ (z : Answer × List ℕ). z.0) ((pass b s e).maps out)
 
-  kept : (out : List ℕ) (r : Refusal) → (map_copied b out).0 ≡ Refused r → Either b y → (map_copied b out).1 ≡ out
+  kept : (out : List ℕ) (r : Refusal) → (map_copied b out).0 ≡ Err r → Either b y → (map_copied b out).1 ≡ out
   kept out r q (inl (s, e)) = ap (λ (z : Answer × List ℕ). z.1) ((pass b s e).maps out)
   kept out r q (inr (c, h)) = (refuse b c h).kept out r q
 
-  starts : (i o : ℕ) → attribute_start b i ≡ Done o → (c : Context) × HoldsContext 2 b c
+  starts : (i o : ℕ) → attribute_start b i ≡ Ok o → (c : Context) × HoldsContext 2 b c
       → (c : Context) × HoldsContext 2 b c × (i < count c) × (o ≡ start_in c.attributes i) × (attribute_answer b i ≡ answered o (attribute_at c i))
   starts i o e (c, h) = go (ltb i (count c)) refl (sym ((by_context b c h).starts i) ∙ e)
     where
-      go : (t : Bool) → ltb i (count c) ≡ t → pick t (Done (start_in c.attributes i)) (refused COUNT (used c)) ≡ Done o
+      go : (t : Bool) → ltb i (count c) ≡ t → pick t (Ok (start_in c.attributes i)) (refused COUNT (used c)) ≡ Ok o
           → (c : Context) × HoldsContext 2 b c × (i < count c) × (o ≡ start_in c.attributes i) × (attribute_answer b i ≡ answered o (attribute_at c i))
       go true q k = (
         c,
@@ -165,13 +163,13 @@ module _ (refuse : QuestionsRefuseExactly) (pass : RefusalsPassOn) (by_context :
       )
       go false q k = absurd (let z : ◌≡◌ {A = ℕ} 0 1 = cc in omega arith)
 
-  no_part_law : (lent s : Bor (List ℕ)) (i : ℕ) (r : Refusal) → s.now ≡ b → attribute_start b i ≡ Refused r → PartHandedBack lent s i → Either b y → lent.now ≡ []
+  no_part_law : (lent s : Bor (List ℕ)) (i : ℕ) (r : Refusal) → s.now ≡ b → attribute_start b i ≡ Err r → PartHandedBack lent s i → Either b y → lent.now ≡ []
   no_part_law lent s i r k e p (inl (q, u)) = (pass b q u).no_slice lent s i k p
   no_part_law lent s i r k e p (inr (c, h)) =
       let w = (by_context b c h).attributes i ∙ ap (with_members (attribute_at c i)) (sym ((by_context b c h).starts i) ∙ e) in
       slice_empty lent s (attribute_answer s.now i).part (ap (λ (l : List ℕ). (attribute_answer l i).part) k ∙ ap (λ (a : AttributeAnswer). a.part) w) p
 
-  copied : (out : List ℕ) (n : ℕ) → (map_copied b out).0 ≡ Done n → (c : Context) × HoldsContext 2 b c
+  copied : (out : List ℕ) (n : ℕ) → (map_copied b out).0 ≡ Ok n → (c : Context) × HoldsContext 2 b c
       → (es : List Entry) × MapHeld b es × (n ≡ length es) × ((map_copied b out).1 ≡ over (numbers es) out)
   copied out n e (c, h) =
       let k = its_map (room_of b) c h.0 (map_copied b out).0 (length out) n ((refuse b c h).map out) e in
@@ -179,7 +177,7 @@ module _ (refuse : QuestionsRefuseExactly) (pass : RefusalsPassOn) (by_context :
       let w = (by_index b c h).map k.1 k.0 out k.2 k.3 f in
       (k.0, (c, h, k.1, k.2, k.3), count_said (map_copied b out) (length k.0) n _ w e, ap (λ (z : Answer × List ℕ). z.1) w)
 
-  bytes_copied_law : (out : List ℕ) (n : ℕ) → ((i : ℕ) → get_or out i 0 < 256) → (map_copied_bytes b out).0 ≡ Done n → (c : Context) × HoldsContext 2 b c
+  bytes_copied_law : (out : List ℕ) (n : ℕ) → ((i : ℕ) → get_or out i 0 < 256) → (map_copied_bytes b out).0 ≡ Ok n → (c : Context) × HoldsContext 2 b c
       → (es : List Entry) × MapHeld b es × (n ≡ length es) × ((map_copied_bytes b out).1 ≡ over (part_bytes (memory_map es)) out)
   bytes_copied_law out n z e (c, h) =
       let k = its_map (room_of b) c h.0 (map_copied_bytes b out).0 (length out / 8) n ((refuse b c h).map_bytes out) e in
@@ -187,28 +185,28 @@ module _ (refuse : QuestionsRefuseExactly) (pass : RefusalsPassOn) (by_context :
       let w = (by_index b c h).map_bytes k.1 k.0 out z k.2 k.3 f in
       (k.0, (c, h, k.1, k.2, k.3), count_said (map_copied_bytes b out) (length k.0) n _ w e, ap (λ (x : Answer × List ℕ). x.1) w)
 
-  module_refused_law : (a : ℕ) (r : Refusal) → Either b y → module_holding b a ≡ Refused r → reading_of b ≡ reading.Refused r
-  module_refused_law a r (inl (s, e)) q = read_refused b y s e ∙ ap reading.Refused (same_refusal (sym ((pass b s e).modules a) ∙ q))
+  module_refused_law : (a : ℕ) (r : Refusal) → Either b y → module_holding b a ≡ Err r → reading_of b ≡ Err r
+  module_refused_law a r (inl (s, e)) q = read_refused b y s e ∙ ap Err (same_refusal (sym ((pass b s e).modules a) ∙ q))
   module_refused_law a r (inr (c, h)) q = absurd ((refuse b c h).modules a r q)
 
-  module_held : (a o : ℕ) → module_holding b a ≡ Done o → (c : Context) × HoldsContext 2 b c
+  module_held : (a o : ℕ) → module_holding b a ≡ Ok o → (c : Context) × HoldsContext 2 b c
   module_held a o e = held b y (module_holding b a) o (λ s q. (pass b s q).modules a) e (either b y)
 
   -- by pages
   module _ (c : Context) (h : HoldsContext 2 b c) (a o : ℕ) where
-    on_page : (module_holding b a ≡ Done o) ↔ ModuleStart (OnPage a) c o
+    on_page : (module_holding b a ≡ Ok o) ↔ ModuleStart (OnPage a) c o
     on_page =
         let p = (last_page.contexts b c h).pages in
         let q = (by_index b c h).modules a o in
         (λ e. asked_alike c (λ i m k. (p i m a k).0) (λ i m k. (p i m a k).1) o (q.0 e), λ s. q.1 (asked_alike c (λ i m k. (p i m a k).1) (λ i m k. (p i m a k).0) o s))
 
-  page_start : (a o : ℕ) → (module_holding b a ≡ Done o) ↔ ((c : Context) × HoldsContext 2 b c × ModuleStart (OnPage a) c o)
+  page_start : (a o : ℕ) → (module_holding b a ≡ Ok o) ↔ ((c : Context) × HoldsContext 2 b c × ModuleStart (OnPage a) c o)
   page_start a o = (λ e. let k = module_held a o e in (k.0, k.1, (on_page k.0 k.1 a o).0 e), λ k. (on_page k.0 k.1 a o).1 k.2)
 
-  page_free_law : (a : ℕ) → (module_holding b a ≡ Done 0) ↔ ((c : Context) × HoldsContext 2 b c × NoModule (OnPage a) c)
+  page_free_law : (a : ℕ) → (module_holding b a ≡ Ok 0) ↔ ((c : Context) × HoldsContext 2 b c × NoModule (OnPage a) c)
   page_free_law a = (λ e. let k = (page_start a 0).0 e in (k.0, k.1, none_said (OnPage a) k.0 k.2), λ k. (page_start a 0).1 (k.0, k.1, inl (refl, k.2)))
 
-  held_below_law : (a o : ℕ) → module_holding b a ≡ Done o → 1 ≤ o → a < 18446744073709551616
+  held_below_law : (a o : ℕ) → module_holding b a ≡ Ok o → 1 ≤ o → a < 18446744073709551616
   held_below_law a o e l = let k = module_held a o e in below k.0 k.1 (((by_index b k.0 k.1).modules a o).0 e)
     where
       below : (c : Context) → HoldsContext 2 b c → ModuleStart (HoldsAddress a) c o → a < 18446744073709551616

@@ -5,7 +5,7 @@ use mathlib.Core.List.{List}
 use native.Mathlib.Omega.{arith}
 use lib.ListN.{length}
 use Rattle.byte_layout.specs.Stored.{bytes_at, over}
-use Rattle.refusals.specs.declared.Answer.{Answer}
+use Rattle.refusals.specs.Answers.{Answer}
 use Rattle.ultra_map_question.specs.MapQuestion.{map_copied_bytes, map_numbers}
 use Rattle.ultra_map_question.proofs.MapLaws.{numbers_copied}
 use Rattle.ultra_map_question.proofs.MapBytes.{bytes_copied_law}

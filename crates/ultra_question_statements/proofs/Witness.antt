@@ -1,4 +1,5 @@
 -- What the statements on the questions say of the context with every type.
+use Rattle.std.specs.Prelude.{Err}
 use Prim.Native.Nat.{ℕ, ◌+◌, ◌<◌}
 use mathlib.Core.Path.{◌≡◌, refl, sym, ap, ◌∙◌, subst}
 use mathlib.Core.List.{List, [], ◌∷◌}
@@ -7,17 +8,15 @@ use native.Mathlib.Omega.{arith}
 use lib.ListN.{length, get_or}
 use denote.Ref.{Bor}
 use Rattle.byte_layout.specs.Stored.{bytes_at}
-use Rattle.refusals.specs.Answers.{refusal, refused}
+use Rattle.refusals.specs.Answers.{Answer, refusal, refused}
 use Rattle.ultra_format.specs.Contexts.{type_of, Body.command_line, Context, count, body_at, type_at, start_in, total}
 use Rattle.lent_buffers.specs.Room.{room_of}
 use Rattle.ultra_format.specs.Examples.{every_map, every_type, every_type_bytes}
-use Rattle.refusals.specs.declared.Answer.{Answer}
 use Rattle.ultra_format.proofs.Witness.{every_type_meets, every_type_opens}
 use Rattle.ultra_acceptance.specs.Acceptance.{HoldsContext}
 use Rattle.ultra_acceptance.proofs.Acceptance.{one_context, held_reading}
 use Rattle.ultra_stepping.specs.Checks.{head_check}
 use Rattle.ultra_reading.specs.Reading.{used_length, reading_of}
-use Rattle.ultra_reading.specs.declared.Reading.TheVariants as reading
 use Rattle.lent_buffers.specs.declared.Part.{Part}
 use Rattle.lent_buffers.specs.LentParts.{part, LiesAt, WholeOf}
 use Rattle.ultra_locating.specs.Searching.{first}
@@ -83,7 +82,7 @@ none_read : used_length 2 [] ≡ refused 1 0
 unfolding used_length head_check
 none_read = refl
 
-none_refused : reading_of [] ≡ reading.Refused (refusal 1 0)
+none_refused : reading_of [] ≡ Err (refusal 1 0)
 unfolding reading_of
 none_refused = rw none_read
 

@@ -2,11 +2,10 @@
 -- with no word on how it is looked for. (Where the map question refuses: QuestionRefusals.) Proved in proofs/ByIndex.antt:
 -- `questions_by_index`.
 -- A reader has to believe this file.
-use Rattle.std.specs.Prelude.{ℕ, ◌+◌, ◌*◌, ◌/◌, ◌≤◌, ◌<◌, ◌≡◌, ◌↔◌, ◌⊎◌, List, length}
+use Rattle.std.specs.Prelude.{ℕ, ◌+◌, ◌*◌, ◌/◌, ◌≤◌, ◌<◌, ◌≡◌, ◌↔◌, ◌⊎◌, List, length, Ok}
 use Rattle.words.specs.Rounding.{rounded_up}
 use Rattle.byte_layout.specs.Stored.{Bytes, over}
 use Rattle.ultra_format.specs.Contexts.{Entry, Module, Body.memory_map, Body.module_info, Body.command_line, Context, count, body_at, type_at, start_in}
-use Rattle.refusals.specs.declared.Answer.TheVariants.{Done}
 use Rattle.ultra_acceptance.specs.Acceptance.{HoldsContext}
 use Rattle.lent_buffers.specs.LentParts.{part, no_part}
 use Rattle.ultra_questions.specs.Parts.{part_bytes}
@@ -38,15 +37,15 @@ HoldsAddress a m = (m.address ≤ a) × (a < m.address + rounded_up 4096 m.size)
 
 pub record ByIndex (b : List ℕ) (c : Context) : Type 0 where
   -- 0 tells that there is none
-  pub modules : (a o : ℕ) → (module_holding b a ≡ Done o) ↔ ModuleStart (HoldsAddress a) c o
-  pub no_module : (a : ℕ) → (module_holding b a ≡ Done 0) ↔ NoModule (HoldsAddress a) c
+  pub modules : (a o : ℕ) → (module_holding b a ≡ Ok o) ↔ ModuleStart (HoldsAddress a) c o
+  pub no_module : (a : ℕ) → (module_holding b a ≡ Ok 0) ↔ NoModule (HoldsAddress a) c
   -- "The map copied out as 64-bit numbers"; "elements past the last triple stay. Success answers the number of entries."
   pub map : (i : ℕ) (es : List Entry) (out : List ℕ) → i < count c → body_at c i ≡ memory_map es → 3 * length es ≤ length out
-      → map_copied b out ≡ (Done (length es), over (numbers es) out)
+      → map_copied b out ≡ (Ok (length es), over (numbers es) out)
   -- "64-bit lists as bytes, eight to a number": those of the map's part of the buffer
   pub map_bytes : (i : ℕ) (es : List Entry) (out : List ℕ) → Bytes out → i < count c → body_at c i ≡ memory_map es
       → 3 * length es ≤ length out / 8
-      → map_copied_bytes b out ≡ (Done (length es), over (part_bytes (memory_map es)) out)
+      → map_copied_bytes b out ≡ (Ok (length es), over (part_bytes (memory_map es)) out)
   -- "The command line is handed back as that part of the buffer, up to its zero; an empty part if there is none": where it is, and the
   -- text, which is the board's where there is none
   pub line : (i : ℕ) (t : List ℕ) → i < count c → body_at c i ≡ command_line t

@@ -3,15 +3,13 @@
 -- it: specs/Refusing.antt of crate ultra_acceptance). They speak of whole refusals, by 01's number and value of an answer: whatever
 -- else a refusal carries is settled too. Proved in proofs/QuestionRefusals.antt: `questions_refuse`, `refusals_pass_on`.
 -- A reader has to believe this file.
-use Rattle.std.specs.Prelude.{ℕ, ◌*◌, ◌/◌, ◌≤◌, ◌<◌, ◌≡◌, ◌↔◌, ◌⊎◌, List, [], length}
+use Rattle.std.specs.Prelude.{ℕ, ◌*◌, ◌/◌, ◌≤◌, ◌<◌, ◌≡◌, ◌↔◌, ◌⊎◌, List, [], length, Err}
 use Rattle.std.specs.Borrow.{Bor}
 use Rattle.byte_layout.specs.Stored.{Bytes}
 use Rattle.refusals.specs.Refusals.{COUNT, ROOM, ABSENT}
-use Rattle.refusals.specs.Answers.{number_of, value_of}
+use Rattle.refusals.specs.Answers.{Answer, number_of, value_of}
 use Rattle.ultra_format.specs.Contexts.{Entry, Body.memory_map, Context, count, body_at, type_at, used}
 use Rattle.refusals.specs.declared.Refusal.{Refusal}
-use Rattle.refusals.specs.declared.Answer.{Answer}
-use Rattle.refusals.specs.declared.Answer.TheVariants.{Refused}
 use Rattle.ultra_acceptance.specs.Acceptance.{HoldsContext}
 use Rattle.ultra_reading.specs.Reading.{used_length}
 use Rattle.lent_buffers.specs.LentParts.{no_part, WholeOf}
@@ -24,7 +22,7 @@ use Rattle.ultra_questions.specs.ModuleQuestion.{module_holding}
 -- ---- the questions' own rows
 -- "an index asked for at or past the count", "3 with the used length"
 abbrev pub IndexRefused : Context → ℕ → Refusal → Type 0
-IndexRefused c i r = (number_of (Refused r) ≡ COUNT) × (value_of (Refused r) ≡ used c) × (count c ≤ i)
+IndexRefused c i r = (number_of (Err r) ≡ COUNT) × (value_of (Err r) ≡ used c) × (count c ≤ i)
 
 -- "no map attribute"
 abbrev pub NoMap : Context → Type 0
@@ -36,19 +34,19 @@ TooShort c capacity = (i : ℕ) × (es : List Entry) × (i < count c) × (body_a
 
 -- "19 then 18, both with the used length", for an output of `capacity` numbers
 abbrev pub MapRefused : Context → ℕ → Refusal → Type 0
-MapRefused c capacity r = (value_of (Refused r) ≡ used c) × (((number_of (Refused r) ≡ ABSENT) × NoMap c) ⊎ ((number_of (Refused r) ≡ ROOM) × TooShort c capacity))
+MapRefused c capacity r = (value_of (Err r) ≡ used c) × (((number_of (Err r) ≡ ABSENT) × NoMap c) ⊎ ((number_of (Err r) ≡ ROOM) × TooShort c capacity))
 
 -- the questions' own refusals, and no others, of a buffer that holds the context
 pub record QuestionsRefuse (b : List ℕ) (c : Context) : Type 0 where
   -- the start alone, and the whole answer
-  pub attribute : (i : ℕ) (r : Refusal) → (attribute_start b i ≡ Refused r) ↔ IndexRefused c i r
-  pub attributes : (i : ℕ) (r : Refusal) → (attribute_answer b i ≡ unanswered (Refused r)) ↔ IndexRefused c i r
-  pub map : (out : List ℕ) (r : Refusal) → ((map_copied b out).0 ≡ Refused r) ↔ MapRefused c (length out) r
+  pub attribute : (i : ℕ) (r : Refusal) → (attribute_start b i ≡ Err r) ↔ IndexRefused c i r
+  pub attributes : (i : ℕ) (r : Refusal) → (attribute_answer b i ≡ unanswered (Err r)) ↔ IndexRefused c i r
+  pub map : (out : List ℕ) (r : Refusal) → ((map_copied b out).0 ≡ Err r) ↔ MapRefused c (length out) r
   -- "an output counts whole eights"
-  pub map_bytes : (out : List ℕ) (r : Refusal) → ((map_copied_bytes b out).0 ≡ Refused r) ↔ MapRefused c (length out / 8) r
+  pub map_bytes : (out : List ℕ) (r : Refusal) → ((map_copied_bytes b out).0 ≡ Err r) ↔ MapRefused c (length out / 8) r
   -- "the buffer and all lent memory are unchanged"; of an output of bytes this is `CopiesBytes` (MapAsBytes)
-  pub kept : (out : List ℕ) (r : Refusal) → (map_copied b out).0 ≡ Refused r → (map_copied b out).1 ≡ out
-  pub modules : (a : ℕ) (r : Refusal) → module_holding b a ≡ Refused r → ⊥
+  pub kept : (out : List ℕ) (r : Refusal) → (map_copied b out).0 ≡ Err r → (map_copied b out).1 ≡ out
+  pub modules : (a : ℕ) (r : Refusal) → module_holding b a ≡ Err r → ⊥
 
 abbrev pub QuestionsRefuseExactly : Type 0
 QuestionsRefuseExactly = (b : List ℕ) (c : Context) → HoldsContext 2 b c → QuestionsRefuse b c
@@ -70,4 +68,4 @@ pub record PassesOn (b : List ℕ) (r : Answer) : Type 0 where
   pub no_line : (lent s board : Bor (List ℕ)) → s.now ≡ b → LineHandedBack lent s board → WholeOf lent board
 
 abbrev pub RefusalsPassOn : Type 0
-RefusalsPassOn = (b : List ℕ) (r : Refusal) → used_length 2 b ≡ Refused r → PassesOn b (Refused r)
+RefusalsPassOn = (b : List ℕ) (r : Refusal) → used_length 2 b ≡ Err r → PassesOn b (Err r)

@@ -2,14 +2,13 @@
 -- attribute (Examples, of crate ultra_format), on both sides of each limit; and of the command line of any context. Proved in
 -- proofs/Witness.antt, `witnessed`, from them.
 -- A reader has to believe this file.
-use Rattle.std.specs.Prelude.{ℕ, ◌+◌, ◌<◌, ◌≡◌, ◌⊎◌, List, [], ◌∷◌, length, get_or}
+use Rattle.std.specs.Prelude.{ℕ, ◌+◌, ◌<◌, ◌≡◌, ◌⊎◌, List, [], ◌∷◌, length, get_or, Ok}
 use Rattle.std.specs.Borrow.{Bor}
 use Rattle.words.specs.Rounding.{rounded_up}
 use Rattle.refusals.specs.Answers.{refused}
 use Rattle.ultra_format.specs.Contexts.{Body.command_line, Context, count, body_at, type_at, start_in}
 use Rattle.ultra_format.specs.Examples.{every_type, every_type_bytes}
 use Rattle.ultra_format.specs.MemberRules.{Ends}
-use Rattle.refusals.specs.declared.Answer.TheVariants.{Done}
 use Rattle.ultra_acceptance.specs.Acceptance.{HoldsContext}
 use Rattle.lent_buffers.specs.LentParts.{part}
 use Rattle.ultra_questions.specs.AttributeQuestion.{attribute_start}
@@ -30,13 +29,13 @@ lent_at o l = record { ref_ptr = (1, o); now = l }
 pub record Witnessed : Type 0 where
   pub holds : HoldsContext 2 every_type_bytes every_type
   -- seven attributes in 688 bytes
-  pub last : attribute_start every_type_bytes 6 ≡ Done 672
+  pub last : attribute_start every_type_bytes 6 ≡ Ok 672
   pub past : attribute_start every_type_bytes 7 ≡ refused 3 688
   -- 4,097 bytes of a module at 2^33, the attribute of which starts at 504: its second page is held to its last byte
-  pub before : module_holding every_type_bytes 8589934591 ≡ Done 0
-  pub first_byte : module_holding every_type_bytes 8589934592 ≡ Done 504
-  pub last_byte : module_holding every_type_bytes 8589942783 ≡ Done 504
-  pub after : module_holding every_type_bytes 8589942784 ≡ Done 0
+  pub before : module_holding every_type_bytes 8589934591 ≡ Ok 0
+  pub first_byte : module_holding every_type_bytes 8589934592 ≡ Ok 504
+  pub last_byte : module_holding every_type_bytes 8589942783 ≡ Ok 504
+  pub after : module_holding every_type_bytes 8589942784 ≡ Ok 0
   pub rounded_end : Ends 8589934592 (rounded_up 4096 4097)
   -- the last page of the address space, at a multiple of 4,096 and of no higher power of 2: rounded up, one byte ends within 2^64, and one
   -- byte more than the page does not
@@ -45,11 +44,11 @@ pub record Witnessed : Type 0 where
   pub half_page : Ends 18446744073709549568 2048 × (Ends 18446744073709549568 (rounded_up 4096 2048) → ⊥)
   -- two entries, six numbers
   pub map : (a b c d e f : ℕ) (rest : List ℕ)
-      → map_copied every_type_bytes (a ∷ b ∷ c ∷ d ∷ e ∷ f ∷ rest) ≡ (Done 2, 0 ∷ 18446744073709547520 ∷ 1 ∷ 18446744073709547520 ∷ 4096 ∷ 4294967296 ∷ rest)
+      → map_copied every_type_bytes (a ∷ b ∷ c ∷ d ∷ e ∷ f ∷ rest) ≡ (Ok 2, 0 ∷ 18446744073709547520 ∷ 1 ∷ 18446744073709547520 ∷ 4096 ∷ 4294967296 ∷ rest)
   pub too_short : (out : List ℕ) → length out ≡ 5
       → ((map_copied every_type_bytes out).0 ≡ refused 18 688) × ((map_copied every_type_bytes out).1 ≡ out)
   -- in bytes, 48
-  pub map_bytes : (out : List ℕ) → length out ≡ 48 → ((i : ℕ) → get_or out i 0 < 256) → (map_copied_bytes every_type_bytes out).0 ≡ Done 2
+  pub map_bytes : (out : List ℕ) → length out ≡ 48 → ((i : ℕ) → get_or out i 0 < 256) → (map_copied_bytes every_type_bytes out).0 ≡ Ok 2
   pub bytes_too_short : (out : List ℕ) → length out ≡ 47 → (map_copied_bytes every_type_bytes out).0 ≡ refused 18 688
   -- the text of eight bytes, from 616 on
   pub line : command_line_part every_type_bytes ≡ part 616 8

@@ -1,5 +1,6 @@
 -- Laws of the command line question: each answer from the facts that lead to it, that the part lies within the buffer, and that a line never
 -- starts at 0.
+use Rattle.std.specs.Prelude.{Ok, Err}
 use Prim.Native.Nat.{ℕ, ◌+◌, ◌≤◌}
 use mathlib.Core.Path.{◌≡◌, refl, sym, ap, subst}
 use mathlib.Core.Bool.{Bool, true, false}
@@ -11,8 +12,7 @@ use borrow.Author.Tests.{eqb-true, eqb-false}
 use denote.Ref.{Bor}
 use Rattle.ultra_format.specs.Decoding.{start, stored_type, stored_size, context_of}
 use Rattle.refusals.specs.declared.Refusal.{Refusal}
-use Rattle.refusals.specs.declared.Answer.{Answer}
-use Rattle.refusals.specs.declared.Answer.TheVariants.{Done, Refused}
+use Rattle.refusals.specs.Answers.{Answer}
 use Rattle.ultra_reading.specs.Reading.{used_length}
 use Rattle.lent_buffers.specs.declared.Part.{Part}
 use Rattle.ultra_locating.specs.Passing.{if_accepted}
@@ -24,18 +24,18 @@ use Rattle.ultra_locating.proofs.Searches.{found_at, none_at, type_said}
 use Rattle.ultra_questions.proofs.BodyLaws.{line_part, part_within}
 
 module _ (b : List ℕ) where
-  pub line_passed : {r : Refusal} → used_length 2 b ≡ Refused r → no_part ≡ command_line_part b
+  pub line_passed : {r : Refusal} → used_length 2 b ≡ Err r → no_part ≡ command_line_part b
   unfolding command_line_part line_found
   line_passed e = rw e
 
-  pub line_found_law : {n : ℕ} {f : Found} → used_length 2 b ≡ Done n → line_in (context_of b) ≡ f → found_part f ≡ command_line_part b
+  pub line_found_law : {n : ℕ} {f : Found} → used_length 2 b ≡ Ok n → line_in (context_of b) ≡ f → found_part f ≡ command_line_part b
   unfolding command_line_part line_found
   line_found_law e k = rw (e, k)
 
   Fits : Part → Type 0
   Fits p = p.start + p.length ≤ length b
 
-  found_within : (n : ℕ) → used_length 2 b ≡ Done n → (t : Bool) → eqb (found_start (line_in (context_of b))) 0 ≡ t → Fits (command_line_in (context_of b))
+  found_within : (n : ℕ) → used_length 2 b ≡ Ok n → (t : Bool) → eqb (found_start (line_in (context_of b))) 0 ≡ t → Fits (command_line_in (context_of b))
   unfolding Fits
   found_within n e true q = rw (none_at (of_type 5) b (eqb-true _ 0 q)) (omega arith)
   found_within n e false q =
@@ -47,8 +47,8 @@ module _ (b : List ℕ) where
 
   read_within : (u : Answer) → used_length 2 b ≡ u → Fits (found_part (if_accepted (λ r. none) (line_in (context_of b)) u))
   unfolding Fits
-  read_within (Done n) e = found_within n e (eqb (found_start (line_in (context_of b))) 0) refl
-  read_within (Refused r) e = omega arith
+  read_within (Ok n) e = found_within n e (eqb (found_start (line_in (context_of b))) 0) refl
+  read_within (Err r) e = omega arith
 
   pub line_within : (command_line_part b).start + (command_line_part b).length ≤ length b
   unfolding command_line_part line_found Fits
@@ -64,8 +64,8 @@ module _ (b : List ℕ) where
       absurd (omega (arith, z, ap (λ (x : Found). (found_part x).start) f.is, ap (λ (p : Part). p.start) w))
 
   none_read : (u : Answer) → let f = if_accepted (λ r. none) (line_in (context_of b)) u in (found_part f).start ≡ 0 → f ≡ none
-  none_read (Done n) z = none_found (eqb (found_start (line_in (context_of b))) 0) refl z
-  none_read (Refused r) z = refl
+  none_read (Ok n) z = none_found (eqb (found_start (line_in (context_of b))) 0) refl z
+  none_read (Err r) z = refl
 
   no_line_law : (command_line_part b).start ≡ 0 → line_found b ≡ none
   unfolding command_line_part line_found

@@ -1,15 +1,13 @@
 -- "The attribute at an index: type, start, size and its members; bytes of a fixed text from its closing zero on are given as zero; a
 -- map or command line as its part of the buffer's entries or text, up to its zero; 3 with the used length."
 -- A reader has to believe this file.
-use Rattle.std.specs.Prelude.{ℕ, List, ltb}
+use Rattle.std.specs.Prelude.{ℕ, List, ltb, Ok, Err}
 use Rattle.std.specs.Borrow.{Bor}
 use Rattle.refusals.specs.Refusals.{COUNT}
-use Rattle.refusals.specs.Answers.{refused}
+use Rattle.refusals.specs.Answers.{Answer, refused}
 use Rattle.ultra_format.specs.Contexts.{type_of, Attribute, Context, count, attribute_at, start_in, used}
 use Rattle.ultra_format.specs.Decoding.{pick, context_of}
 use Rattle.ultra_format.specs.Records.{blank_records, records_of}
-use Rattle.refusals.specs.declared.Answer.{Answer}
-use Rattle.refusals.specs.declared.Answer.TheVariants.{Done, Refused}
 use Rattle.ultra_reading.specs.Reading.{used_length}
 use Rattle.ultra_questions.specs.declared.attributes.AttributeAnswer.{AttributeAnswer}
 use Rattle.ultra_locating.specs.Passing.{if_accepted}
@@ -20,7 +18,7 @@ use Rattle.ultra_questions.specs.Parts.{body_part}
 abbrev pub answered : ℕ → Attribute → AttributeAnswer
 answered o a =
     record {
-      answer = Done o;
+      answer = Ok o;
       header = record { kind = type_of a.body; start = o; size = a.size };
       records = records_of a.body;
       part = body_part o a.body;
@@ -33,11 +31,11 @@ unanswered r = record { answer = r; header = record { kind = 0; start = 0; size 
 -- ---- of a context
 -- "3 with the used length" for "an index asked for at or past the count"
 abbrev pub start_or_count : Context → ℕ → Answer
-start_or_count c i = pick (ltb i (count c)) (Done (start_in c.attributes i)) (refused COUNT (used c))
+start_or_count c i = pick (ltb i (count c)) (Ok (start_in c.attributes i)) (refused COUNT (used c))
 
 abbrev pub with_members : Attribute → Answer → AttributeAnswer
-with_members a (Done o) = answered o a
-with_members a (Refused r) = unanswered (Refused r)
+with_members a (Ok o) = answered o a
+with_members a (Err r) = unanswered (Err r)
 
 -- ---- of a buffer: the calls' answers
 -- the start alone

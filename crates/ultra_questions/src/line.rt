@@ -3,7 +3,7 @@ ghost use Rattle.std.specs.Prelude.{◌≡◌};
 ghost use Rattle.ultra_questions.specs.CommandLineQuestion.{command_line_part, LineHandedBack};
 
 use lent_buffers::Part;
-use refusals::Answer;
+use refusals::Refusal;
 use ultra_layout::{attribute, types};
 
 // Where the text is, and how long it is up to its zero; both 0 where there is none or the buffer is refused.
@@ -11,7 +11,7 @@ pub fn command_line_part(buf: &[u8]) -> Part
     ensures { result ≡ command_line_part buf.now }
 {
     let answer = ultra_reading::used_length(buf, 2);
-    let Answer::Done(_) = answer else {
+    let Ok(_) = answer else {
         return lent_buffers::no_part();
     };
     let start = ultra_locating::first_of_type(buf, types::COMMAND_LINE);

@@ -7,7 +7,7 @@ ghost use Rattle.ultra_locating.specs.Passing.{Accepts};
 ghost use Rattle.ultra_locating.specs.Searching.{first_in, found_start};
 ghost use Rattle.ultra_questions.specs.ModuleQuestion.{holding, module_holding};
 
-use refusals::Answer;
+use refusals::Refusal;
 use ultra_layout::{attribute, head, module, types};
 
 // Whether the attribute in the `size` bytes from `at` on is a module that holds `address`.
@@ -26,32 +26,31 @@ fn holds(buf: &[u8], at: usize, size: u32, address: u64) -> bool
     )
 }
 
-// Where the first module that holds `address` starts, or 0.
+// Where the first module that holds `address` starts, or 0, which is what `module_holding` answers.
+#[tactic(auto, using(crate::proofs::ModuleLaws::searching))]
 fn first_holding(buf: &[u8], address: u64) -> u32
     requires { Accepts buf.now }
     ensures { result ≡ found_start (first_in (holding address) (context_of buf.now)) }
 {
     let count = words::load_u32(buf, head::COUNT);
     let mut at: u32 = 8;
-    let mut i: u32 = 0;
-    while i < count {
+    for _ in 0..count {
         let size = words::load_u32(buf, at as usize + attribute::SIZE);
         if holds(buf, at as usize, size, address) {
             return at;
         }
         at += size;
-        i += 1;
     }
     0
 }
 
 // The start of the first module that holds `address`, or 0 where none does.
-pub fn module_holding(buf: &[u8], address: u64) -> Answer
+pub fn module_holding(buf: &[u8], address: u64) -> Result<u32, Refusal>
     ensures { result ≡ module_holding buf.now address }
 {
     let answer = ultra_reading::used_length(buf, 2);
-    let Answer::Done(_) = answer else {
+    let Ok(_) = answer else {
         return answer;
     };
-    Answer::Done(first_holding(buf, address))
+    Ok(first_holding(buf, address))
 }

@@ -1,4 +1,5 @@
 -- Laws of reading: one attribute's answer, a type above those before, the answer from an attribute on, and the whole answer by the head.
+use Rattle.std.specs.Prelude.{Ok}
 use Prim.Native.Nat.{ℕ, suc, ◌+◌, ◌-◌, ◌≤◌, ◌<◌, max}
 use mathlib.Core.Path.{◌≡◌, refl, sym, ◌∙◌}
 use mathlib.Core.Bool.{true, false}
@@ -9,7 +10,6 @@ use lib.ListN.{length}
 use borrow.Author.Tests.{ne_eqb}
 use Rattle.words.specs.Words.{u32_at}
 use Rattle.refusals.specs.Answers.{refused}
-use Rattle.refusals.specs.declared.Answer.TheVariants.{Done}
 use Rattle.refusals.proofs.Chains.{none_first, first_stays, refuses, not_refused}
 use Rattle.lent_buffers.specs.Room.{room_of}
 use Rattle.ultra_format.specs.Members.{body_check}
@@ -69,7 +69,7 @@ module _ (b : List ℕ) (room i n : ℕ) where
       let q : n - i ≡ suc (n - (i + 1)) = omega arith in
       rw q (simp (f, add-one))
 
-  pub walk_end : n ≡ i → attributes_answer b room i (n - i) ≡ Done (start b i)
+  pub walk_end : n ≡ i → attributes_answer b room i (n - i) ≡ Ok (start b i)
   unfolding attributes_answer
   walk_end e = let q : n - i ≡ 0 = omega arith in rw q
 
@@ -83,6 +83,6 @@ unfolding used_length
 head_goes_on fewest b e = rw e
 
 -- an accepted buffer has a good head
-pub accepted_head : (fewest : ℕ) (b : List ℕ) (n : ℕ) → used_length fewest b ≡ Done n → HeadHolds fewest b
+pub accepted_head : (fewest : ℕ) (b : List ℕ) (n : ℕ) → used_length fewest b ≡ Ok n → HeadHolds fewest b
 unfolding used_length
 accepted_head fewest b n e = head_holds fewest b (not_refused (head_check fewest b) 0 _ n e).0

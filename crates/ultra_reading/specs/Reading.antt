@@ -1,20 +1,18 @@
 -- What reading a buffer answers: the tests of document 01's table, in its order. "In reading and adding, 1 to 4 (3 for the count)
 -- have offset 0 and come first. Then attribute by attribute, 5 to 16 in that order, each with that attribute's start".
 -- A reader has to believe this file.
-use Rattle.std.specs.Prelude.{ℕ, zero, suc, ◌+◌, ◌<◌, max, ◌≡◌, List, [], ◌∷◌, get_or}
+use Rattle.std.specs.Prelude.{ℕ, zero, suc, ◌+◌, ◌<◌, max, ◌≡◌, List, [], ◌∷◌, get_or, Ok, Err, Result}
 use Rattle.words.specs.Words.{u32_at}
 use Rattle.refusals.specs.Refusals.{first_of}
-use Rattle.refusals.specs.Answers.{or_refused, or_refused_at}
+use Rattle.refusals.specs.Answers.{Answer, or_refused, or_refused_at}
 use Rattle.lent_buffers.specs.Room.{room_of}
 use Rattle.ultra_format.specs.Members.{body_check}
 use Rattle.ultra_format.specs.Places.{place_check}
 use Rattle.ultra_format.specs.Decoding.{decoded, start, stored_count, types_before}
-use Rattle.refusals.specs.declared.Answer.{Answer}
-use Rattle.refusals.specs.declared.Answer.TheVariants.{Done, Refused}
 use Rattle.ultra_stepping.specs.Checks.{head_check, bounds_check}
 use Rattle.ultra_reading.specs.declared.Version.{Version}
-use Rattle.ultra_reading.specs.declared.Reading.{Reading}
-use Rattle.ultra_reading.specs.declared.Reading.TheVariants as reading
+use Rattle.ultra_reading.specs.declared.Accepted.{Accepted}
+use Rattle.refusals.specs.declared.Refusal.{Refusal}
 
 -- the first of 5 to 16 that the attribute at `o` breaks, after those of the types `before`, or 0
 unfoldable pub attribute_check : List ℕ → ℕ → List ℕ → ℕ → ℕ
@@ -38,7 +36,7 @@ highest_of (u ∷ us) = max (highest_of us) u
 
 -- n attributes from attribute i on: the first refusal, or where they end
 unfoldable pub attributes_answer : List ℕ → ℕ → ℕ → ℕ → Answer
-attributes_answer b room i zero = Done (start b i)
+attributes_answer b room i zero = Ok (start b i)
 attributes_answer b room i (suc n) = or_refused_at (check_of b room i) i (start b i) (attributes_answer b room (suc i) n)
 
 -- the used length, or the refusal
@@ -49,9 +47,16 @@ used_length fewest b = or_refused (head_check fewest b) 0 (attributes_answer b (
 abbrev pub version_of : List ℕ → Version
 version_of b = record { major = get_or b 0 0; minor = get_or b 1 0 }
 
+-- what reading answers: `Result<Accepted, Refusal>`
+abbrev pub Reading : Type 0
+Reading = Result Accepted Refusal
+
+abbrev pub read_as : Version → ℕ → Reading
+read_as v n = Ok (record { version = v; used = n })
+
 abbrev pub with_version : Version → Answer → Reading
-with_version v (Done n) = reading.Accepted v n
-with_version v (Refused r) = reading.Refused r
+with_version v (Ok n) = read_as v n
+with_version v (Err r) = Err r
 
 -- reading a context: 2 is the lower limit of its count
 unfoldable pub reading_of : List ℕ → Reading
@@ -59,9 +64,9 @@ reading_of b = with_version (version_of b) (used_length 2 b)
 
 -- 01's number and value of a reading
 abbrev pub reading_number : Reading → ℕ
-reading_number (reading.Accepted v n) = 0
-reading_number (reading.Refused r) = r.number
+reading_number (Ok a) = 0
+reading_number (Err r) = r.number
 
 abbrev pub reading_value : Reading → ℕ
-reading_value (reading.Accepted v n) = n
-reading_value (reading.Refused r) = r.offset
+reading_value (Ok a) = a.used
+reading_value (Err r) = r.offset

@@ -4,7 +4,7 @@ ghost use Rattle.ultra_format.specs.Decoding.{platform_at};
 ghost use Rattle.ultra_format.specs.Records.{platform_record, blank_platform};
 ghost use Rattle.ultra_layout.specs.Sizes.{platform_size};
 
-use ultra_format::{OptionalU8, OptionalU64, PlatformRecord};
+use ultra_format::PlatformRecord;
 use ultra_layout::platform;
 
 pub fn blank() -> PlatformRecord
@@ -16,10 +16,10 @@ pub fn blank() -> PlatformRecord
         loader_minor: 0,
         name: [0u8; 32],
         rsdp: 0,
-        higher_half_base: OptionalU64::Absent,
-        depth: OptionalU8::Absent,
-        dtb: OptionalU64::Absent,
-        smbios: OptionalU64::Absent,
+        higher_half_base: None,
+        depth: None,
+        dtb: None,
+        smbios: None,
     }
 }
 

@@ -1,11 +1,8 @@
 -- A test of every element, as a loop over a list meets it: by the first of those left.
-use Prim.Native.Nat.{ℕ, ◌+◌, ◌<◌}
-use mathlib.Core.Path.{◌≡◌}
-use mathlib.Core.Bool.{Bool, true, false}
+use mathlib.Core.Path.{◌≡◌, refl, ap}
+use mathlib.Core.Bool.{Bool, true, false, ◌&&◌}
 use mathlib.Core.List.{List, [], ◌∷◌}
-use native.Mathlib.Numerals.{add-one}
-use lib.ListN.{length, get_or, drop}
-use lib.Seq.{drop-cons}
+use Rattle.std.specs.List.{list_all}
 use Rattle.ultra_format.specs.Members.{every}
 
 module _ {X : Type 0} (p : X → Bool) where
@@ -22,6 +19,8 @@ module _ {X : Type 0} (p : X → Bool) where
     unfolding every
     first_passes f = rw (e, f)
 
--- the first of the numbers left, from i on
-pub next_left : (l : List ℕ) (i : ℕ) → i < length l → drop i l ≡ get_or l i 0 ∷ drop (i + 1) l
-next_left l i h = rw (add-one i) (drop-cons l i 0 h)
+-- the library's word for it
+pub every_all : {X : Type 0} (p : X → Bool) (l : List X) → every p l ≡ list_all p l
+unfolding every
+every_all p [] = refl
+every_all p (x ∷ l) = ap (λ (b : Bool). p x && b) (every_all p l)

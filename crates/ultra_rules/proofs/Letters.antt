@@ -7,6 +7,7 @@ use native.Mathlib.Omega.{arith}
 use lib.ListN.{length, get_or}
 use lib.Dec.{ltb, eqb-suc-zero}
 use borrow.Author.Tests.{lt-ltb, le-ltb, ne_eqb}
+use Rattle.std.proofs.lemmas.Grind.{common_steps}
 use Rattle.byte_layout.specs.Stored.{up_to_zero, text_at}
 use Rattle.byte_layout.proofs.Texts.{rest_stop, rest_next}
 use Rattle.ultra_format.specs.Members.{every, nonzero, ascii_text, path_text}
@@ -47,6 +48,9 @@ module _ (b : List ℕ) (o k i : ℕ) where
 
   pub rest_open : k ≤ i → ascii_text (k - i) (text_at b (o + i) (k - i)) ≡ false
   rest_open h = ascii_open (k - i) _ (omega arith)
+
+-- a loop over the field's bytes, which are a part of the buffer
+pub ruleset letters = (common_steps, rest_closed, rest_bad, rest_letter, rest_open)
 
 -- ---- a path
 first_up : (x : ℕ) (l : List ℕ) → get_or (up_to_zero x l) 0 0 ≡ x

@@ -7,26 +7,33 @@ pub mod module;
 pub mod texts;
 
 ghost use Rattle.std.specs.Prelude.{◌≡◌};
+ghost use Rattle.refusals.specs.Answers.{checked};
 ghost use Rattle.ultra_format.specs.Members.{member_check};
 
-// The first of 12 to 16 that fails, or 0.
-pub fn first_broken(form: bool, value: bool, text: bool, range: bool, order: bool) -> u16
-    ensures { result ≡ member_check form value text range order }
+// The first of 12 to 16 that fails.
+pub fn first_broken(
+    form: bool,
+    value: bool,
+    text: bool,
+    range: bool,
+    order: bool,
+) -> Result<(), u16>
+    ensures { result ≡ checked (member_check form value text range order) }
 {
     if !form {
-        return refusals::FORM;
+        return Err(refusals::FORM);
     }
     if !value {
-        return refusals::VALUE;
+        return Err(refusals::VALUE);
     }
     if !text {
-        return refusals::TEXT;
+        return Err(refusals::TEXT);
     }
     if !range {
-        return refusals::RANGE;
+        return Err(refusals::RANGE);
     }
     if !order {
-        return refusals::ORDER;
+        return Err(refusals::ORDER);
     }
-    0
+    Ok(())
 }

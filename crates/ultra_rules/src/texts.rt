@@ -4,31 +4,26 @@ ghost use Rattle.byte_layout.specs.Stored.{text_at};
 ghost use Rattle.ultra_format.specs.Members.{ascii_text, path_text};
 
 // Whether the text in the `width` bytes from `at` on closes there, with bytes 1 to 127 before its zero.
+#[tactic(auto, using(crate::proofs::Letters::letters))]
 pub fn ascii(bytes: &[u8], at: usize, width: usize) -> bool
     requires { at + width ≤ length bytes.now }
     ensures { result ≡ ascii_text width (text_at bytes.now at width) }
 {
-    let mut i = 0;
-    while i < width {
-        let byte = bytes[at + i];
-        if byte == 0 {
-            return true;
+    for byte in &bytes[at..at + width] {
+        match *byte {
+            0 => return true,
+            1..=127 => {}
+            _ => return false,
         }
-        if 127 < byte {
-            return false;
-        }
-        i += 1;
     }
     false
 }
 
 // Whether the text in the `width` bytes from `at` on closes there and begins with `/`.
+#[tactic(auto, using(crate::proofs::Letters::path_stop, crate::proofs::Letters::path_rest))]
 pub fn path(bytes: &[u8], at: usize, width: usize) -> bool
     requires { (at + width ≤ length bytes.now) × (1 ≤ width) }
     ensures { result ≡ path_text width (text_at bytes.now at width) }
 {
-    if bytes[at] != b'/' {
-        return false;
-    }
-    byte_layout::text_length(bytes, at, width) < width
+    bytes[at] == b'/' && byte_layout::text_length(bytes, at, width) < width
 }

@@ -5,10 +5,12 @@ use mathlib.Core.List.{List}
 use native.Mathlib.Omega.{arith}
 use native.Mathlib.Numerals.{add-one}
 use borrow.Author.Tests.{eq-eqb, ne_eqb}
+use lib.ListN.{length}
+use Rattle.std.proofs.lemmas.Grind.{common_steps}
 use Rattle.words.specs.Words.{u32_at}
 use Rattle.ultra_format.specs.Decoding.{start, stored_type, stored_size}
 use Rattle.ultra_stepping.specs.Checks.{bounds_check}
-use Rattle.ultra_stepping.specs.Walking.{first_of_type}
+use Rattle.ultra_stepping.specs.Walking.{InBounds, first_of_type}
 use Rattle.ultra_stepping.proofs.BoundsLaws.{bounds_hold, bounds_pass}
 
 -- ---- where attributes start
@@ -59,3 +61,13 @@ module _ (b : List ℕ) (t i n : ℕ) where
   pub first_none : n ≤ i → first_of_type b t i (n - i) ≡ 0
   unfolding first_of_type
   first_none h = let q : n - i ≡ 0 = omega arith in rw q
+
+-- ---- a walk that has come to attribute i, of n that are in bounds, and the laws that its loop goes by
+module _ (b : List ℕ) (n i : ℕ) (h : InBounds b n) (l : i < n) where
+  pub header_in : start b i + 8 ≤ length b
+  header_in = (bounds_hold b (length b) (start b i) (h i l)).header
+
+  pub body_in : start b i + u32_at b (start b i + 4) ≤ length b
+  body_in = (bounds_hold b (length b) (start b i) (h i l)).within
+
+pub ruleset walk = (common_steps, start_first, start_next, header_in, body_in, first_here, first_next, first_none)

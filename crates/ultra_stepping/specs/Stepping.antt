@@ -2,7 +2,7 @@
 -- offset is below 8 or no multiple of 8; then 6, 7, 8; else hands back the attribute's type, start and size together with the next
 -- cursor. Refusals 1 to 4 of a step have offset 0, the others the cursor's offset."
 -- A reader has to believe this file.
-use Rattle.std.specs.Prelude.{ℕ, zero, suc, ◌+◌, ◌%◌, ◌&&◌, List, leb, eqb}
+use Rattle.std.specs.Prelude.{ℕ, zero, suc, ◌+◌, ◌%◌, ◌&&◌, List, leb, eqb, Err, Option, Some, None, Result, Ok}
 use Rattle.words.specs.Words.{u32_at}
 use Rattle.refusals.specs.Refusals.{unless, HEADER}
 use Rattle.refusals.specs.declared.Refusal.{Refusal}
@@ -12,8 +12,16 @@ use Rattle.ultra_format.specs.Decoding.{pick, stored_count}
 use Rattle.ultra_stepping.specs.Checks.{head_check, bounds_check}
 use Rattle.ultra_stepping.specs.declared.cursor.Header.{Header}
 use Rattle.ultra_stepping.specs.declared.cursor.Cursor.{Cursor}
-use Rattle.ultra_stepping.specs.declared.cursor.Step.{Step}
-use Rattle.ultra_stepping.specs.declared.cursor.Step.TheVariants.{Attribute, End, Refused}
+
+-- an attribute with the cursor of the next, the end, or a refusal: `Result<Option<(Header, Cursor)>, Refusal>`
+abbrev pub Step : Type 0
+Step = Result (Option (Header × Cursor)) Refusal
+
+abbrev pub steps_to : Header → Cursor → Step
+steps_to h next = Ok (Some (h, next))
+
+abbrev pub at_end : Step
+at_end = Ok None
 
 -- the first of 5 to 8 that a cursor's offset breaks, or 0
 unfoldable pub cursor_check : List ℕ → ℕ → ℕ
@@ -22,7 +30,7 @@ cursor_check b o = unless (leb 8 o && eqb (o % 8) 0) HEADER (bounds_check b (roo
 -- the refusal, where its number is not 0; else what the rest answers
 abbrev pub step_unless : ℕ → Refusal → Step → Step
 step_unless zero r rest = rest
-step_unless (suc n) r rest = Refused r
+step_unless (suc n) r rest = Err r
 
 -- of the whole, and of the attribute at the cursor's index
 abbrev pub step_refused : ℕ → ℕ → Step → Step
@@ -40,17 +48,16 @@ header_at b o = record { kind = u32_at b o; start = o; size = u32_at b (o + 4) }
 unfoldable pub step_of : List ℕ → Cursor → Step
 step_of b c =
     step_refused (head_check 2 b) 0
-    (pick (leb (stored_count b) c.index) End
+    (pick (leb (stored_count b) c.index) at_end
     (step_refused_at (cursor_check b c.offset) c.index c.offset
-    (Attribute (header_at b c.offset) (cursor_at (c.index + 1) (c.offset + u32_at b (c.offset + 4))))))
+    (steps_to (header_at b c.offset) (cursor_at (c.index + 1) (c.offset + u32_at b (c.offset + 4))))))
 
 -- 01's number and value of a step: "A step's value is the next cursor's offset, or 0 at the end."
 abbrev pub step_number : Step → ℕ
-step_number (Attribute h next) = 0
-step_number End = 0
-step_number (Refused r) = r.number
+step_number (Ok s) = 0
+step_number (Err r) = r.number
 
 abbrev pub step_value : Step → ℕ
-step_value (Attribute h next) = next.offset
-step_value End = 0
-step_value (Refused r) = r.offset
+step_value (Ok (Some s)) = s.1.offset
+step_value (Ok None) = 0
+step_value (Err r) = r.offset

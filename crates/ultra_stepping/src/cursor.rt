@@ -1,5 +1,6 @@
 // Stepping: a cursor by value, whose step answers an attribute and the following cursor.
 ghost use Rattle.std.specs.Prelude.{◌≡◌};
+ghost use Rattle.refusals.specs.Answers.{checked};
 ghost use Rattle.ultra_stepping.specs.Stepping.{cursor_at, cursor_check, step_of};
 
 use refusals::Refusal;
@@ -20,22 +21,15 @@ pub struct Cursor {
     pub offset: u32,
 }
 
-#[derive(Clone, Copy)]
-pub enum Step {
-    Attribute(Header, Cursor),
-    End,
-    Refused(Refusal),
-}
-
-// The first of 5 to 8 that a cursor's offset breaks, or 0.
-fn check(buf: &[u8], offset: u32) -> u16
-    ensures { result ≡ cursor_check buf.now offset }
+// The first of 5 to 8 that a cursor's offset breaks.
+fn check(buf: &[u8], offset: u32) -> Result<(), u16>
+    ensures { result ≡ checked (cursor_check buf.now offset) }
 {
     if offset < 8 {
-        return refusals::HEADER;
+        return Err(refusals::HEADER);
     }
     if offset % 8 != 0 {
-        return refusals::HEADER;
+        return Err(refusals::HEADER);
     }
     crate::bounds::check(buf, lent_buffers::room(buf), offset as usize)
 }
@@ -51,36 +45,33 @@ impl Cursor {
         }
     }
 
-    // The attribute at the cursor with the following cursor, the end, or the refusal.
-    pub fn step(self, buf: &[u8]) -> Step
+    // The attribute at the cursor with the following cursor, none at the end, or the refusal.
+    pub fn step(self, buf: &[u8]) -> Result<Option<(Header, Cursor)>, Refusal>
         ensures { result ≡ step_of buf.now self }
     {
         let index = self.index;
         let offset = self.offset;
-        let head = crate::head::check(buf, 2);
-        if head != 0 {
-            return Step::Refused(Refusal::new(head, 0));
+        if let Err(number) = crate::head::check(buf, 2) {
+            return Err(Refusal::new(number, 0));
         }
         if words::load_u32(buf, ultra_layout::head::COUNT) <= index {
-            return Step::End;
+            return Ok(None);
         }
-        let number = check(buf, offset);
-        if number != 0 {
-            return Step::Refused(Refusal::at(number, index, offset));
+        if let Err(number) = check(buf, offset) {
+            return Err(Refusal::at(number, index, offset));
         }
         let at = offset as usize;
         let kind = words::load_u32(buf, at);
         let size = words::load_u32(buf, at + attribute::SIZE);
-        Step::Attribute(
-            Header {
-                kind,
-                start: offset,
-                size,
-            },
-            Cursor {
-                index: index + 1,
-                offset: offset + size,
-            },
-        )
+        let header = Header {
+            kind,
+            start: offset,
+            size,
+        };
+        let next = Cursor {
+            index: index + 1,
+            offset: offset + size,
+        };
+        Ok(Some((header, next)))
     }
 }

@@ -6,5 +6,5 @@ mod cursor;
 pub mod head;
 mod walk;
 
-pub use cursor::{Cursor, Header, Step};
+pub use cursor::{Cursor, Header};
 pub use walk::{first_of_type, start_of};

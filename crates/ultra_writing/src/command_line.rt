@@ -6,12 +6,14 @@ ghost use Rattle.ultra_format.specs.Additions.{Addition, size_given, bytes_given
 use ultra_layout::{command_line, types};
 
 // "A text of k bytes as command line is written in 8 + (k + 1 rounded up to a multiple of 8) bytes."
+#[tactic(auto, using(crate::proofs::Line::line_size_law))]
 pub fn size(text: &[u8]) -> usize
     ensures { result ≡ size_given (Addition.add_command_line text.now) }
 {
     command_line::TEXT + (text.len() + 1 + 7) / 8 * 8
 }
 
+#[tactic(auto, using(crate::proofs::Line::line_size_law))]
 pub fn write(part: &mut [u8], text: &[u8])
     requires text_in_bounds { size_given (Addition.add_command_line text.now) ≤ length part.old }
     requires text_bound { size_given (Addition.add_command_line text.now) < 4294967296 }

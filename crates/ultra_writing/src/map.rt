@@ -6,12 +6,14 @@ ghost use Rattle.ultra_format.specs.Additions.{Addition, size_given, bytes_given
 use ultra_layout::{entry, map, types};
 
 // How many bytes the attribute has. Numbers left over are no entry.
+#[tactic(auto, using(crate::proofs::Entries::map_size_law))]
 pub fn size(numbers: &[u64]) -> usize
     ensures { result ≡ size_given (Addition.add_map numbers.now) }
 {
     map::ENTRIES + entry::WIDTH * (numbers.len() / 3)
 }
 
+#[tactic(auto, using(crate::proofs::Entries::map_size_law))]
 pub fn write(part: &mut [u8], numbers: &[u64])
     requires numbers_in_bounds { size_given (Addition.add_map numbers.now) ≤ length part.old }
     requires numbers_len { (length numbers.now % 3 ≡ 0) × (size_given (Addition.add_map numbers.now) < 4294967296) }
@@ -19,10 +21,8 @@ pub fn write(part: &mut [u8], numbers: &[u64])
 {
     let whole = size(numbers);
     crate::header(part, types::MEMORY_MAP, whole as u32);
-    let mut i = 0;
-    while i < numbers.len() {
-        words::store_u64(part, map::ENTRIES + 8 * i, numbers[i]);
-        i += 1;
+    for (i, number) in numbers.iter().enumerate() {
+        words::store_u64(part, map::ENTRIES + 8 * i, *number);
     }
 }
 

@@ -1,16 +1,18 @@
 -- `ultra_appending::check` meets its contract: each return from the tests that lead there.
-use Prim.Native.Nat.{ℕ, ◌-◌, ◌≤◌, ◌<◌}
+use Rattle.std.specs.Prelude.{Ok, Err}
+use Prim.Native.Nat.{ℕ, ◌≤◌, ◌<◌}
 use mathlib.Core.Path.{◌≡◌, sym, ap, ◌∙◌}
 use native.Mathlib.Omega.{arith}
-use borrow.Author.Tests.{ltb-true, ltb-false}
 use lib.ListN.{length}
+use Rattle.refusals.specs.Answers.{checked, number_in}
+use Rattle.refusals.proofs.Chains.{broken, unbroken, passed_on}
 use Rattle.lent_buffers.specs.Room.{room_of}
 use Rattle.ultra_format.specs.Places.{place_check}
 use Rattle.ultra_format.specs.Decoding.{stored_count, types_before}
 use Rattle.ultra_places.proofs.PlaceLaws.{length_types}
 use Rattle.ultra_appending.proofs.Appending.{Read, was_read, stop_full, stop_place, stop_given, stop_room, pass}
 use Rattle.ultra_appending.proofs.check.Goals as goal
-use Rattle.ultra_appending.proofs.check.Goals.{After-next_place_check-place, Else-place-ne0, Start}
+use Rattle.ultra_appending.proofs.check.Goals.{After-next_place_check, In_ok-next_place_check, In_ok-given, Start}
 
 read : (s : Start) → Read s.args.buf.now s.args.used
 read s = was_read _ _ s.requires.buf_value
@@ -20,13 +22,13 @@ abbrev many : (s : Start) → length (types_before s.args.buf.now (stored_count 
 many s = length_types _ _
 
 -- the place's number is of the stored count
-number : (c : After-next_place_check-place)
+placed : (c : After-next_place_check)
     → let b = c.args.buf.now in
-    c.next_place_check-place.result ≡ place_check (types_before b (stored_count b)) c.args.kind
-number c =
-    c.next_place_check-place.ensures ∙ ap (λ (n : ℕ). place_check (types_before c.args.buf.now n) c.args.kind) c.load_u32-count.ensures
+    c.next_place_check.result ≡ checked (place_check (types_before b (stored_count b)) c.args.kind)
+placed c =
+    c.next_place_check.ensures ∙ ap (λ (n : ℕ). checked (place_check (types_before c.args.buf.now n) c.args.kind)) c.load_u32-count.ensures
 
-few : (c : After-next_place_check-place)
+few : (c : After-next_place_check)
     → let b = c.args.buf.now in length (types_before b (stored_count b)) < 1024
 few c =
     let b = c.args.buf.now in
@@ -34,43 +36,50 @@ few c =
     omega (arith, c.load_u32-count.ensures, c.if-count-ge1024.false)
 
 -- past the place's test
-found : (c : Else-place-ne0)
+found : (c : In_ok-next_place_check)
     → let b = c.args.buf.now in
     place_check (types_before b (stored_count b)) c.args.kind ≡ 0
 found c =
-    let number' : (let b = c.args.buf.now in c.next_place_check-place.result ≡ place_check (types_before b (stored_count b)) c.args.kind) =
-    c.next_place_check-place.ensures ∙ ap (λ (n : ℕ). place_check (types_before c.args.buf.now n) c.args.kind) c.load_u32-count.ensures in
-    sym number' ∙ c.if-place-ne0.false
+    let b = c.args.buf.now in
+    let placed' : c.next_place_check.result ≡ checked (place_check (types_before b (stored_count b)) c.args.kind) =
+    c.next_place_check.ensures ∙ ap (λ (n : ℕ). checked (place_check (types_before b n) c.args.kind)) c.load_u32-count.ensures in
+    unbroken _ (sym placed' ∙ c.in_ok-next_place_check.was)
+
+-- past the members' own
+sound : (c : In_ok-given) → number_in c.args.given ≡ 0
+sound c = ap number_in c.in_ok-given.was
 
 -- the room that is left
-left : (c : After-next_place_check-place)
-    → (c.room-room.result ≡ room_of c.args.buf.now) × (c.args.used ≤ room_of c.args.buf.now)
-left c = (c.room-room.ensures, (was_read _ _ c.requires.buf_value).within)
+left : (c : Start) → c.args.used ≤ room_of c.args.buf.now
+left c = (was_read _ _ c.requires.buf_value).within
 
 pub load_u32-count-requires : goal.load_u32-count-requires
 load_u32-count-requires c = omega (arith, read (goal.at.load_u32-count-requires c).Start)
 
 pub returns-then-count-ge1024 : goal.returns-then-count-ge1024
-returns-then-count-ge1024 c = stop_full _ _ _ _ _ _ (omega (arith, many (goal.at.returns-then-count-ge1024 c).Start, c.load_u32-count.ensures, c.if-count-ge1024.true))
+returns-then-count-ge1024 c = ap checked (stop_full _ _ _ _ _ _ (omega (arith, many (goal.at.returns-then-count-ge1024 c).Start, c.load_u32-count.ensures, c.if-count-ge1024.true)))
 
-pub next_place_check-place-requires : goal.next_place_check-place-requires
-next_place_check-place-requires c = record { in_bounds = λ j l. (read (goal.at.next_place_check-place-requires c).Start).bounds j (omega (arith, l, c.load_u32-count.ensures)); le_kind = c.requires.le_kind }
+pub next_place_check-requires : goal.next_place_check-requires
+next_place_check-requires c = record { in_bounds = λ j l. (read (goal.at.next_place_check-requires c).Start).bounds j (omega (arith, l, c.load_u32-count.ensures)); le_kind = c.requires.le_kind }
 
-pub overflow_sub-short : goal.overflow_sub-short
-overflow_sub-short c = omega (arith, left (goal.at.overflow_sub-short c).After-next_place_check-place)
+pub returns-in_err-next_place_check : goal.returns-in_err-next_place_check
+returns-in_err-next_place_check c =
+    let e = sym (placed (goal.at.returns-in_err-next_place_check c).After-next_place_check) ∙ c.in_err-next_place_check.was in
+    passed_on _ c.from_residual.ensures.1 ∙ sym e ∙ ap checked (stop_place _ _ _ _ _ _ (few (goal.at.returns-in_err-next_place_check c).After-next_place_check) (broken _ _ e).1)
 
-pub returns-then-place-ne0 : goal.returns-then-place-ne0
-returns-then-place-ne0 c = number (goal.at.returns-then-place-ne0 c).After-next_place_check-place ∙ stop_place _ _ _ _ _ _ (few (goal.at.returns-then-place-ne0 c).After-next_place_check-place) (λ e. c.if-place-ne0.true (number (goal.at.returns-then-place-ne0 c).After-next_place_check-place ∙ e))
+pub returns-in_err-given : goal.returns-in_err-given
+returns-in_err-given c =
+    let e = sym c.requires.given_value ∙ c.in_err-given.was in
+    passed_on _ c.from_residual-in_err-given.ensures.1 ∙ sym e
+    ∙ ap checked (stop_given _ _ _ _ _ _ (few (goal.at.returns-in_err-given c).After-next_place_check) (found (goal.at.returns-in_err-given c).In_ok-next_place_check) (broken _ _ e).1)
 
-pub returns-then-given-ne0 : goal.returns-then-given-ne0
-returns-then-given-ne0 c = stop_given _ _ _ _ _ _ (few (goal.at.returns-then-given-ne0 c).After-next_place_check-place) (found (goal.at.returns-then-given-ne0 c).Else-place-ne0) c.if-given-ne0.true
+pub overflow_sub-room : goal.overflow_sub-room
+overflow_sub-room c = omega (arith, left (goal.at.overflow_sub-room c).Start, c.room.ensures)
 
-pub returns-then-short : goal.returns-then-short
-returns-then-short c =
-    let s = c.args in
-    stop_room _ _ _ _ _ _ (few (goal.at.returns-then-short c).After-next_place_check-place) (found (goal.at.returns-then-short c).Else-place-ne0) c.if-given-ne0.false (omega (arith, left (goal.at.returns-then-short c).After-next_place_check-place, ltb-true (c.room-room.result - s.used) s.size c.if-short.true-raw))
+pub returns-then-room-used : goal.returns-then-room-used
+returns-then-room-used c =
+    ap checked (stop_room _ _ _ _ _ _ (few (goal.at.returns-then-room-used c).After-next_place_check) (found (goal.at.returns-then-room-used c).In_ok-next_place_check) (sound (goal.at.returns-then-room-used c).In_ok-given) (omega (arith, left (goal.at.returns-then-room-used c).Start, c.room.ensures)))
 
 pub returns : goal.returns
 returns c =
-    let s = c.args in
-    pass _ _ _ _ _ _ (few (goal.at.returns c).After-next_place_check-place) (found (goal.at.returns c).Else-place-ne0) c.if-given-ne0.false (omega (arith, left (goal.at.returns c).After-next_place_check-place, ltb-false (c.room-room.result - s.used) s.size c.if-short.false-raw))
+    ap checked (pass _ _ _ _ _ _ (few (goal.at.returns c).After-next_place_check) (found (goal.at.returns c).In_ok-next_place_check) (sound (goal.at.returns c).In_ok-given) (omega (arith, left (goal.at.returns c).Start, c.room.ensures)))

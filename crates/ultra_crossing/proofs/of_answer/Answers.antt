@@ -4,8 +4,8 @@ use Rattle.ultra_crossing.specs.Crossing.{answer_crossed}
 use native.Mathlib.Nat.{zero-add}
 use Rattle.ultra_crossing.proofs.of_answer.Goals as goal
 
-pub returns-in-Done : goal.returns-in-Done
-returns-in-Done c = sym (zero-add _) ∙ sym (ap answer_crossed c.in-Done.is)
+pub returns-in-Ok : goal.returns-in-Ok
+returns-in-Ok c = sym (zero-add _) ∙ sym (ap answer_crossed c.in-Ok.is)
 
-pub returns-in-Refused : goal.returns-in-Refused
-returns-in-Refused c = c.of_refusal.ensures ∙ sym (ap answer_crossed c.in-Refused.is)
+pub returns-in-Err : goal.returns-in-Err
+returns-in-Err c = c.of_refusal.ensures ∙ sym (ap answer_crossed c.in-Err.is)

@@ -8,15 +8,15 @@ use Rattle.ultra_listing.proofs.write.Goals as goal
 
 pub accepted-requires : goal.accepted-requires
 accepted-requires c =
-    let a : Accepts c.args.buf.now = (c.in-Done.used, sym c.used_length-answer.ensures ∙ c.in-Done.is) in
+    let a : Accepts c.args.buf.now = (c.in-Ok.used, sym c.used_length-answer.ensures ∙ c.in-Ok.is) in
     record { accepts = a; used_value = used_is_law c.args.buf.now a }
 
-pub returns-in-Refused : goal.returns-in-Refused
+pub returns-in-Err : goal.returns-in-Err
 unfolding lines_of
-returns-in-Refused c =
-    rw (← c.used_length-answer.ensures, c.in-Refused.is) (c.refused.ensures ∙ lines_put _ _)
+returns-in-Err c =
+    rw (← c.used_length-answer.ensures, c.in-Err.is) (c.refused.ensures ∙ lines_put _ _)
 
-pub returns-in-Done : goal.returns-in-Done
+pub returns-in-Ok : goal.returns-in-Ok
 unfolding lines_of
-returns-in-Done c =
-    rw (← c.used_length-answer.ensures, c.in-Done.is) (c.accepted.ensures ∙ lines_put _ _)
+returns-in-Ok c =
+    rw (← c.used_length-answer.ensures, c.in-Ok.is) (c.accepted.ensures ∙ lines_put _ _)

@@ -8,24 +8,24 @@ use Rattle.ultra_locating.proofs.Located.{Loaded, loaded}
 use Rattle.ultra_questions.specs.AttributeQuestion.{unanswered}
 use Rattle.ultra_questions.proofs.AttributeLaws.{StartIs, start_said, answer_passed, answer_found, answer_loaded}
 use Rattle.ultra_questions.proofs.attributes.attribute.Goals as goal
-use Rattle.ultra_questions.proofs.attributes.attribute.Goals.{After-load_u32-size, In-Done}
+use Rattle.ultra_questions.proofs.attributes.attribute.Goals.{After-load_u32-size, In-Ok}
 
 -- after the `let .. else` there is such an attribute, at `start`
-said : (c : In-Done) → StartIs c.args.buf.now c.args.index c.in-Done.start
+said : (c : In-Ok) → StartIs c.args.buf.now c.args.index c.in-Ok.start
 said c =
     let s = c.args in
-    start_said s.buf.now s.index _ (sym c.attribute_start-answer.ensures ∙ c.in-Done.is)
+    start_said s.buf.now s.index _ (sym c.attribute_start-answer.ensures ∙ c.in-Ok.is)
 
-here : (c : In-Done) → let s = c.args in Loaded s.buf.now s.index c.in-Done.start
+here : (c : In-Ok) → let s = c.args in Loaded s.buf.now s.index c.in-Ok.start
 here c = let k = said c in loaded _ k.accepts _ _ k.below k.is
 
 -- its size suits its type
 suits : (c : After-load_u32-size)
-    → size_suits c.load_u32-size.result (decoded c.args.buf.now c.in-Done.start c.load_u32-size.result c.load_u32-kind.result) ≡ true
+    → size_suits c.load_u32-size.result (decoded c.args.buf.now c.in-Ok.start c.load_u32-size.result c.load_u32-kind.result) ≡ true
 suits c =
-    let here' : (let s = c.args in Loaded s.buf.now s.index c.in-Done.start) =
-    let k : StartIs c.args.buf.now c.args.index c.in-Done.start =
-    start_said c.args.buf.now c.args.index _ (sym c.attribute_start-answer.ensures ∙ c.in-Done.is) in
+    let here' : (let s = c.args in Loaded s.buf.now s.index c.in-Ok.start) =
+    let k : StartIs c.args.buf.now c.args.index c.in-Ok.start =
+    start_said c.args.buf.now c.args.index _ (sym c.attribute_start-answer.ensures ∙ c.in-Ok.is) in
     loaded _ k.accepts _ _ k.below k.is in
     rw (c.load_u32-size.ensures, c.load_u32-kind.ensures) here'.suits
 
@@ -36,23 +36,23 @@ returns-in_default c =
     c.unanswered.ensures ∙ ap unanswered e ∙ answer_passed s.buf.now s.index (sym c.attribute_start-answer.ensures ∙ e)
 
 pub load_u32-kind-requires : goal.load_u32-kind-requires
-load_u32-kind-requires c = omega (arith, (here (goal.at.load_u32-kind-requires c).In-Done).reached)
+load_u32-kind-requires c = omega (arith, (here (goal.at.load_u32-kind-requires c).In-Ok).reached)
 
 pub load_u32-size-requires : goal.load_u32-size-requires
-load_u32-size-requires c = omega (arith, (here (goal.at.load_u32-size-requires c).In-Done).reached)
+load_u32-size-requires c = omega (arith, (here (goal.at.load_u32-size-requires c).In-Ok).reached)
 
 pub records-records-requires : goal.records-records-requires
-records-records-requires c = record { size_in_bounds = omega (arith, c.load_u32-size.ensures, (here (goal.at.records-records-requires c).In-Done).reached); kind_value = suits (goal.at.records-records-requires c).After-load_u32-size }
+records-records-requires c = record { size_in_bounds = omega (arith, c.load_u32-size.ensures, (here (goal.at.records-records-requires c).In-Ok).reached); kind_value = suits (goal.at.records-records-requires c).After-load_u32-size }
 
 pub of_body-part-requires : goal.of_body-part-requires
 of_body-part-requires c =
     let z = c.load_u32-size.ensures in
-    let w = (here (goal.at.of_body-part-requires c).In-Done).reached in
+    let w = (here (goal.at.of_body-part-requires c).In-Ok).reached in
     record { size_in_bounds = (omega arith, omega arith); kind_value = suits (goal.at.of_body-part-requires c).After-load_u32-size }
 
 pub returns : goal.returns
 returns c =
     let s = c.args in
-    let w = (here (goal.at.returns c).In-Done).reached in
-    answer_loaded s.buf.now s.index _ _ _ _ _ (said (goal.at.returns c).In-Done).is (c.load_u32-kind.ensures ∙ w.type_is) (c.load_u32-size.ensures ∙ w.size_is) c.records-records.ensures c.of_body-part.ensures
-    ∙ answer_found s.buf.now s.index _ (sym c.attribute_start-answer.ensures ∙ c.in-Done.is)
+    let w = (here (goal.at.returns c).In-Ok).reached in
+    answer_loaded s.buf.now s.index _ _ _ _ _ (said (goal.at.returns c).In-Ok).is (c.load_u32-kind.ensures ∙ w.type_is) (c.load_u32-size.ensures ∙ w.size_is) c.records-records.ensures c.of_body-part.ensures
+    ∙ answer_found s.buf.now s.index _ (sym c.attribute_start-answer.ensures ∙ c.in-Ok.is)

@@ -1,6 +1,6 @@
--- `ultra_questions::module::first_holding` meets its contract. The invariant: `at` is where attribute `i` starts, and the search from
--- there on finds what the whole search finds.
-use Prim.Native.Nat.{◌-◌, ◌≤◌}
+-- `ultra_questions::module::first_holding` meets its contract. The invariant: `at` is where the attribute that the loop has come to starts,
+-- and the search from there on finds what the whole search finds.
+use Prim.Native.Nat.{◌-◌}
 use mathlib.Core.Path.{◌≡◌}
 use Rattle.ultra_format.specs.Decoding.{start, context_of}
 use Rattle.ultra_locating.specs.Searching.{first_in}
@@ -8,9 +8,7 @@ use Rattle.ultra_questions.specs.ModuleQuestion.{holding}
 use Rattle.ultra_locating.proofs.Searches.{searched}
 use Rattle.ultra_questions.proofs.module.first_holding.Given as goal
 
-abbrev pub invariant-loop-i : goal.invariant-loop-i
-invariant-loop-i l =
-    (l.at ≡ start l.buf l.i) × (l.i ≤ l.count) × (searched (holding l.address) l.buf l.i (l.count - l.i) ≡ first_in (holding l.address) (context_of l.buf))
-
-abbrev pub decreases-loop-i : goal.decreases-loop-i
-decreases-loop-i l = l.count - l.i
+abbrev pub invariant-loop : goal.invariant-loop
+invariant-loop l =
+    (l.at ≡ start l.buf l.counter)
+    × (searched (holding l.address) l.buf l.counter (l.count - l.counter) ≡ first_in (holding l.address) (context_of l.buf))

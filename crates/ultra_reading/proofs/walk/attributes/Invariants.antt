@@ -10,8 +10,5 @@ use Rattle.ultra_reading.proofs.walk.attributes.Given as goal
 
 abbrev pub invariant-loop-i : goal.invariant-loop-i
 invariant-loop-i l =
-    (l.at ≡ start l.buf l.i) × (l.previous ≡ nearest (types_before l.buf l.i)) × (l.highest ≡ highest_of (types_before l.buf l.i)) × (l.i ≤ l.count) × (l.at ≤ l.room) × InBounds l.buf l.i
+    (l.at ≡ start l.buf l.i) × (l.previous ≡ nearest (types_before l.buf l.i)) × (l.highest ≡ highest_of (types_before l.buf l.i)) × (l.at ≤ l.room) × InBounds l.buf l.i
     × (attributes_answer l.buf l.room l.i (l.count - l.i) ≡ attributes_answer l.buf l.room 0 l.count)
-
-abbrev pub decreases-loop-i : goal.decreases-loop-i
-decreases-loop-i l = l.count - l.i

@@ -1,24 +1,11 @@
 -- `command_line::write` meets its contract: the text is one field.
 use Prim.Native.Nat.{◌-◌}
-use native.Mathlib.Omega.{arith}
 use Rattle.byte_layout.specs.Fields.{width, Field.text}
 use Rattle.byte_layout.proofs.Written.{begun, next}
 use Rattle.ultra_format.specs.Plain.{written_size}
 use Rattle.ultra_format.specs.Additions.{body_given}
 use Rattle.ultra_writing.specs.Leading.{header_fields}
-use Rattle.ultra_writing.proofs.Line.{line_size_law}
 use Rattle.ultra_writing.proofs.command_line.write.Goals as goal
-
-pub header-requires : goal.header-requires
-header-requires c = omega (arith, line_size_law c.args.text.now)
-
-pub overflow_sub-whole : goal.overflow_sub-whole
-overflow_sub-whole c = omega (arith, line_size_law c.args.text.now)
-
-pub store_padded-requires : goal.store_padded-requires
-store_padded-requires c =
-    let z = line_size_law c.args.text.now in
-    (omega (arith, z), omega (arith, z))
 
 pub returns : goal.returns
 unfolding body_given written_size width

@@ -1,5 +1,5 @@
 -- `map::write` meets its contract: after i turns the first i numbers are fields after the header.
-use Prim.Native.Nat.{◌+◌, ◌-◌, ◌*◌, ◌≤◌}
+use Prim.Native.Nat.{◌+◌, ◌*◌}
 use mathlib.Core.Path.{◌≡◌}
 use mathlib.Core.List.{List, [], ◌∷◌}
 use lib.ListN.{length, take}
@@ -10,8 +10,5 @@ use Rattle.ultra_writing.proofs.map.write.Given as goal
 
 abbrev pub invariant-loop-i : goal.invariant-loop-i
 invariant-loop-i l =
-    (l.i ≤ length l.numbers) × (length l.part ≡ length l.initial.part)
+    (length l.part ≡ length l.initial.part)
     × ((e : List _) → Front e 8 (number 4 3 ∷ number 4 l.whole ∷ []) l.initial.part → Front e (8 + 8 * l.i) (number 4 3 ∷ number 4 l.whole ∷ numbers_fields (take l.i l.numbers)) l.part)
-
-abbrev pub decreases-loop-i : goal.decreases-loop-i
-decreases-loop-i l = length l.numbers - l.i
