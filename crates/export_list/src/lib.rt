@@ -4,7 +4,7 @@
 ghost use Rattle.std.specs.Prelude.{◌≡◌};
 ghost use Rattle.export_list.specs.ExportList.{tag_of};
 
-// Map types of the Ultra protocol that have a tag of their own.
+// Map types of the Ultra protocol that have a tag of their own. A type is any 64 bits, so these are numbers and no enum.
 const FREE: u64 = 1;
 
 const LOADER_RECLAIMABLE: u64 = 4294901761;
@@ -17,6 +17,7 @@ const KERNEL_BINARY: u64 = 4294901764;
 pub const RSDP_SIZE: u64 = 20;
 
 // The tag of a range of map type `kind`.
+#[tactic(auto, unfolding(crate::specs::ExportList::tag_of))]
 pub fn tag_of(kind: u64) -> u32
     ensures { result ≡ tag_of kind }
 {

@@ -41,7 +41,7 @@ fn of_attribute(buf: &[u8], at: usize, kind: u32, out: &mut [u8], m: Extent) -> 
     }
 }
 
-// Those of all attributes of type `kind`.
+// Those of all attributes of type `kind`. The walk is that of export_sizes, which says why no closure is passed to one walk.
 pub fn of_type(buf: &[u8], kind: u32, out: &mut [u8], before: Extent) -> Extent
     requires accepts { Accepts buf.now }
     requires rows_fit { RowsFit out.old before (gathered kind (context_of buf.now).attributes) }
@@ -50,11 +50,9 @@ pub fn of_type(buf: &[u8], kind: u32, out: &mut [u8], before: Extent) -> Extent
     let count = head::count(buf);
     let mut m = before;
     let mut at = head::WIDTH;
-    let mut i = 0;
-    while i < count {
+    for _ in 0..count {
         m = of_attribute(buf, at, kind, out, m);
         at += attribute::size(buf, at) as usize;
-        i += 1;
     }
     m
 }

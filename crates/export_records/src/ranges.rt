@@ -26,10 +26,8 @@ pub fn all(buf: &[u8], first: usize, n: usize, out: &mut [u8], before: Extent) -
     ensures { (out.new, result) ≡ rows_put (out.old, before) (range_entries (entries_at buf.now first n)) }
 {
     let mut m = before;
-    let mut i = 0;
-    while i < n {
+    for i in 0..n {
         m = range(buf, first + entry::WIDTH * i, out, m);
-        i += 1;
     }
     m
 }

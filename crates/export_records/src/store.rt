@@ -21,34 +21,34 @@ pub fn bare(out: &mut [u8], m: Extent, tag: u32, start: u64, size: u64) -> Exten
         16 + 32 * m.count as usize,
         Record {
             tag,
-            flags: 0,
             start,
             size,
-            name: 0,
-            meta: 0,
+            ..Record::default()
         },
     );
     Extent {
         count: m.count + 1,
-        width: m.width,
+        ..m
     }
 }
 
 // The RSDP address, unless it is 0.
+#[tactic(auto, using(crate::proofs::RowLaws::rows_put_none), unfolding(export_list::specs::ExportList::pointer_entries))]
 pub fn pointer(address: u64, out: &mut [u8], m: Extent) -> Extent
     requires { RowsFit out.old m (pointer_entries address) }
     ensures { (out.new, result) ≡ rows_put (out.old, m) (pointer_entries address) }
 {
     if address == 0 {
-        return m;
+        m
+    } else {
+        bare(
+            out,
+            m,
+            handover_format::HANDOVER_RSDP,
+            address,
+            export_list::RSDP_SIZE,
+        )
     }
-    bare(
-        out,
-        m,
-        handover_format::HANDOVER_RSDP,
-        address,
-        export_list::RSDP_SIZE,
-    )
 }
 
 // The file of the module at `at`: its name, and after it the empty meta.
@@ -65,11 +65,11 @@ pub fn file(buf: &[u8], at: usize, out: &mut [u8], m: Extent) -> Extent
         16 + 32 * m.count as usize,
         Record {
             tag: handover_format::HANDOVER_FILE,
-            flags: 0,
             start,
             size,
             name: m.width as u32,
             meta: (m.width + (name + 1)) as u32,
+            ..Record::default()
         },
     );
     Extent {
@@ -90,11 +90,8 @@ pub fn line(buf: &[u8], at: usize, width: usize, out: &mut [u8], m: Extent) -> E
         16 + 32 * m.count as usize,
         Record {
             tag: handover_format::HANDOVER_CMDLINE,
-            flags: 0,
-            start: 0,
-            size: 0,
-            name: 0,
             meta: m.width as u32,
+            ..Record::default()
         },
     );
     Extent {

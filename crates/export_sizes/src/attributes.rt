@@ -10,16 +10,18 @@ use crate::Extent;
 use ultra_layout::{attribute, command_line, entry, head, map, module, platform, types};
 
 // A record for an RSDP address, unless it is 0.
+#[tactic(auto, using(export_list::proofs::BareLaws::bare_strings, crate::proofs::ExtentLaws::grown_none, crate::proofs::ExtentLaws::extent_is), unfolding(export_list::specs::ExportList::pointer_entries))]
 fn pointer(address: u64, m: Extent) -> Extent
     requires { m.count ≤ 4294967296 }
     ensures { (result ≡ grown m (pointer_entries address)) × (result.count ≤ m.count + 1) × (result.width ≤ m.width) }
 {
     if address == 0 {
-        return m;
-    }
-    Extent {
-        count: m.count + 1,
-        width: m.width,
+        m
+    } else {
+        Extent {
+            count: m.count + 1,
+            ..m
+        }
     }
 }
 
@@ -37,7 +39,7 @@ fn of_attribute(buf: &[u8], at: usize, kind: u32, m: Extent) -> Extent
         types::PLATFORM => pointer(platform::rsdp(buf, at), m),
         types::MEMORY_MAP => Extent {
             count: m.count + ((size - map::ENTRIES) / entry::WIDTH) as u64,
-            width: m.width,
+            ..m
         },
         types::MODULE => Extent {
             count: m.count + 1,
@@ -58,7 +60,8 @@ fn of_attribute(buf: &[u8], at: usize, kind: u32, m: Extent) -> Extent
     }
 }
 
-// What all attributes of type `kind` add.
+// What all attributes of type `kind` add. Crates export_records and export_strings walk over them the same way: a walk that takes its step
+// as a closure does not prove, since what the step asks holds at an attribute alone.
 pub fn of_type(buf: &[u8], kind: u32, first: Extent) -> Extent
     requires accepts { Accepts buf.now }
     requires count_bound { (first.count ≤ 1073741824) × (first.width ≤ 1073741824) }
@@ -67,11 +70,9 @@ pub fn of_type(buf: &[u8], kind: u32, first: Extent) -> Extent
     let count = head::count(buf);
     let mut m = first;
     let mut at = head::WIDTH;
-    let mut i = 0;
-    while i < count {
+    for _ in 0..count {
         m = of_attribute(buf, at, kind, m);
         at += attribute::size(buf, at) as usize;
-        i += 1;
     }
     m
 }

@@ -47,6 +47,6 @@ pub fn payload(buf: &[u8]) -> Extent
     m = attributes::of_type(buf, types::PLATFORM, m);
     Extent {
         count: m.count + 2,
-        width: m.width,
+        ..m
     }
 }

@@ -42,7 +42,7 @@ fn of_attribute(buf: &[u8], at: usize, kind: u32, out: &mut [u8], to: usize) -> 
     }
 }
 
-// Those of all attributes of type `kind`.
+// Those of all attributes of type `kind`. The walk is that of export_sizes, which says why no closure is passed to one walk.
 pub fn of_type(buf: &[u8], kind: u32, out: &mut [u8], first: usize) -> usize
     requires accepts { Accepts buf.now }
     requires buf_in_bounds { first + length (strings (gathered kind (context_of buf.now).attributes)) ≤ length out.old }
@@ -51,11 +51,9 @@ pub fn of_type(buf: &[u8], kind: u32, out: &mut [u8], first: usize) -> usize
     let count = head::count(buf);
     let mut to = first;
     let mut at = head::WIDTH;
-    let mut i = 0;
-    while i < count {
+    for _ in 0..count {
         to = of_attribute(buf, at, kind, out, to);
         at += attribute::size(buf, at) as usize;
-        i += 1;
     }
     to
 }

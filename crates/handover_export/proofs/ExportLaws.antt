@@ -1,20 +1,17 @@
 -- Laws of the whole call: the sizes that are counted, the tests on them, and what is answered and left, by how it went.
-use Prim.Native.Nat.{ℕ, zero, suc, ◌+◌, ◌*◌, ◌≤◌, ◌<◌}
+use Rattle.std.specs.Prelude.{Ok, Err}
+use Prim.Native.Nat.{ℕ, zero, suc, ◌+◌, ◌*◌, ◌≤◌}
 use mathlib.Core.Path.{◌≡◌, refl, sym, ap, ◌∙◌}
-use mathlib.Core.Bool.{true, false}
 use mathlib.Core.List.{List}
 use native.Mathlib.Omega.{arith}
 use lib.ListN.{length, length-append}
 use lib.Dec.{leb}
-use borrow.Author.Tests.{leb-true, le-leb, lt-leb}
+use borrow.Author.Tests.{leb-true}
 use Rattle.byte_layout.specs.Stored.{over, closed}
 use Rattle.lent_buffers.specs.Room.{room_of}
 use Rattle.address_ranges.specs.Ranges.{range_fits}
-use Rattle.refusals.specs.Refusals.{COUNT, RANGE, ROOM}
-use Rattle.refusals.specs.Answers.{refusal, value_of}
+use Rattle.refusals.specs.Answers.{Answer, refusal, value_of}
 use Rattle.refusals.specs.declared.Refusal.{Refusal}
-use Rattle.refusals.specs.declared.Answer.{Answer}
-use Rattle.refusals.specs.declared.Answer.TheVariants.{Done, Refused}
 use Rattle.refusals.proofs.Chains.{passed}
 use Rattle.ultra_format.specs.Contexts.{Context}
 use Rattle.ultra_format.specs.Decoding.{context_of}
@@ -41,29 +38,6 @@ module _ (who : List ℕ) (es : List Entry) (m : Extent) (e : m ≡ grown (agent
 
 -- ---- the tests
 module _ (count size load rsdp room : ℕ) where
-  pub gives_count : 1024 < count → COUNT ≡ tests_of count size load rsdp room
-  unfolding tests_of
-  gives_count h = rw (lt-leb count 1024 h)
-
-  module _ (h : count ≤ 1024) where
-    pub gives_load : range_fits load size ≡ false → RANGE ≡ tests_of count size load rsdp room
-    unfolding tests_of
-    gives_load e = rw (le-leb count 1024 h, e)
-
-    module _ (e : range_fits load size ≡ true) where
-      pub gives_rsdp : range_fits rsdp 20 ≡ false → RANGE ≡ tests_of count size load rsdp room
-      unfolding tests_of
-      gives_rsdp f = rw (le-leb count 1024 h, e, f)
-
-      module _ (f : range_fits rsdp 20 ≡ true) where
-        pub gives_room : room < size → ROOM ≡ tests_of count size load rsdp room
-        unfolding tests_of
-        gives_room g = rw (le-leb count 1024 h, e, f, lt-leb size room g)
-
-        pub gives_none : size ≤ room → 0 ≡ tests_of count size load rsdp room
-        unfolding tests_of
-        gives_none g = rw (le-leb count 1024 h, e, f, le-leb size room g)
-
   pub none_given : tests_of count size load rsdp room ≡ 0 → (count ≤ 1024) × (size ≤ room)
   unfolding tests_of
   none_given e =
@@ -74,37 +48,37 @@ module _ (count size load rsdp room : ℕ) where
 
 -- ---- the three ways
 module _ (b : List ℕ) (load : ℕ) (out : List ℕ) where
-  pub unread : (r : Refusal) → used_length 2 b ≡ Refused r → (Refused r, out) ≡ exported b load out
+  pub unread : (r : Refusal) → used_length 2 b ≡ Err r → (Err r, out) ≡ exported b load out
   unfolding exported
   unread r e = rw e
 
   abbrev c : Context
   c = context_of b
 
-  module _ (n v : ℕ) (a : used_length 2 b ≡ Done n) (e : v ≡ export_check c load (room_of out)) where
-    pub refused_by : (r : Refusal) → r ≡ refusal v 0 → (v ≡ 0 → ⊥) → (Refused r, out) ≡ exported b load out
+  module _ (n v : ℕ) (a : used_length 2 b ≡ Ok n) (e : v ≡ export_check c load (room_of out)) where
+    pub refused_by : (r : Refusal) → r ≡ refusal v 0 → (v ≡ 0 → ⊥) → (Err r, out) ≡ exported b load out
     unfolding exported
     refused_by r f h =
-        rw a (ap (λ (q : Refusal). (Refused q, out)) f ∙ or_kept v (agent_of c) (export_entries c load) out h ∙ ap (λ (k : ℕ). or_written k (agent_of c) (export_entries c load) out) e)
+        rw a (ap (λ (q : Refusal). (Err q, out)) f ∙ or_kept v (agent_of c) (export_entries c load) out h ∙ ap (λ (k : ℕ). or_written k (agent_of c) (export_entries c load) out) e)
 
-    pub exported_by : (s : ℕ) (q : List ℕ) → v ≡ 0 → s ≡ export_size c → q ≡ over (payload_bytes (agent_of c) (entries_of load s c.attributes)) out → (Done s, q) ≡ exported b load out
+    pub exported_by : (s : ℕ) (q : List ℕ) → v ≡ 0 → s ≡ export_size c → q ≡ over (payload_bytes (agent_of c) (entries_of load s c.attributes)) out → (Ok s, q) ≡ exported b load out
     unfolding exported
     exported_by s q z f g =
         let k : export_check c load (room_of out) ≡ 0 = sym e ∙ z in
         let t : s ≡ payload_size (agent_of c) (export_entries c load) = f ∙ sym (size_same (agent_of c) load (export_size c) c.attributes) in
         let w = g ∙ ap (λ (i : ℕ). over (payload_bytes (agent_of c) (entries_of load i c.attributes)) out) f in
-        rw (a, k) (λ j. (Done (t j), w j))
+        rw (a, k) (λ j. (Ok (t j), w j))
 
 -- a payload that is made lies within the output
-done_fits : (v : ℕ) (who : List ℕ) (es : List Entry) (out : List ℕ) (n : ℕ) → (or_written v who es out).0 ≡ Done n → (v ≡ 0) × (payload_size who es ≡ n)
+done_fits : (v : ℕ) (who : List ℕ) (es : List Entry) (out : List ℕ) (n : ℕ) → (or_written v who es out).0 ≡ Ok n → (v ≡ 0) × (payload_size who es ≡ n)
 done_fits zero who es out n e = (refl, ap value_of e)
 done_fits (suc v) who es out n e = absurd (let z : ◌≡◌ {A = ℕ} 0 1 = cc in omega arith)
 
-within_by : (a : Answer) (v : ℕ) (who : List ℕ) (es : List Entry) (out : List ℕ) (n : ℕ) → (if_accepted (λ q. (q, out)) (or_written v who es out) a).0 ≡ Done n → (v ≡ 0) × (payload_size who es ≡ n)
-within_by (Done m) v who es out n e = done_fits v who es out n e
-within_by (Refused r) v who es out n e = absurd (let z : ◌≡◌ {A = ℕ} 0 1 = cc in omega arith)
+within_by : (a : Answer) (v : ℕ) (who : List ℕ) (es : List Entry) (out : List ℕ) (n : ℕ) → (if_accepted (λ q. (q, out)) (or_written v who es out) a).0 ≡ Ok n → (v ≡ 0) × (payload_size who es ≡ n)
+within_by (Ok m) v who es out n e = done_fits v who es out n e
+within_by (Err r) v who es out n e = absurd (let z : ◌≡◌ {A = ℕ} 0 1 = cc in omega arith)
 
-pub exported_within : (b : List ℕ) (load : ℕ) (out : List ℕ) (n : ℕ) → (exported b load out).0 ≡ Done n → n ≤ length out
+pub exported_within : (b : List ℕ) (load : ℕ) (out : List ℕ) (n : ℕ) → (exported b load out).0 ≡ Ok n → n ≤ length out
 unfolding exported
 exported_within b load out n e =
     let c = context_of b in

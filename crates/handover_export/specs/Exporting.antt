@@ -3,7 +3,7 @@
 use Rattle.std.specs.Prelude.{ℕ, List, length, leb}
 use Rattle.lent_buffers.specs.Room.{room_of}
 use Rattle.refusals.specs.Refusals.{COUNT, RANGE, ROOM, unless}
-use Rattle.refusals.specs.declared.Answer.{Answer}
+use Rattle.refusals.specs.Answers.{Answer}
 use Rattle.address_ranges.specs.Ranges.{range_fits}
 use Rattle.ultra_format.specs.Contexts.{Context}
 use Rattle.ultra_format.specs.Decoding.{context_of}

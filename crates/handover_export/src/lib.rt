@@ -3,6 +3,7 @@
 #![tactic(auto)]
 
 ghost use Rattle.std.specs.Prelude.{◌≡◌, ◌++◌, ◌+◌, ◌≤◌, length};
+ghost use Rattle.refusals.specs.Answers.{checked};
 ghost use Rattle.byte_layout.specs.Stored.{over, closed};
 ghost use Rattle.ultra_format.specs.Decoding.{context_of};
 ghost use Rattle.ultra_locating.specs.Passing.{Accepts};
@@ -12,29 +13,27 @@ ghost use Rattle.handover_writing.specs.Stores.{put};
 ghost use Rattle.export_list.specs.ExportList.{between, entries_of, agent_of};
 ghost use Rattle.handover_export.specs.Exporting.{tests_of, exported};
 
-use refusals::{Answer, Refusal};
+use refusals::Refusal;
 use ultra_layout::{head, platform};
 
 // The most records that a payload may have: "3 for more than 1,024 records".
 const MOST_RECORDS: u64 = 1024;
 
-// The first of 3, 15 and 18 that is given, or 0.
-fn check(count: u64, size: u64, load: u64, rsdp: u64, room: u64) -> u16
-    ensures { result ≡ tests_of count size load rsdp room }
+// The first of 3, 15 and 18 that is given.
+#[tactic(auto, unfolding(crate::specs::Exporting::tests_of))]
+fn check(count: u64, size: u64, load: u64, rsdp: u64, room: u64) -> Result<(), u16>
+    ensures { result ≡ checked (tests_of count size load rsdp room) }
 {
     if MOST_RECORDS < count {
-        return refusals::COUNT;
+        return Err(refusals::COUNT);
     }
-    if !address_ranges::fits(load, size) {
-        return refusals::RANGE;
-    }
-    if !address_ranges::fits(rsdp, export_list::RSDP_SIZE) {
-        return refusals::RANGE;
+    if !address_ranges::fits(load, size) || !address_ranges::fits(rsdp, export_list::RSDP_SIZE) {
+        return Err(refusals::RANGE);
     }
     if room < size {
-        return refusals::ROOM;
+        return Err(refusals::ROOM);
     }
-    0
+    Ok(())
 }
 
 // The records, SELF with the payload's size and the end among them.
@@ -61,21 +60,17 @@ fn fill(buf: &[u8], load: u64, out: &mut [u8], count: u32, size: u32)
 }
 
 // Writes the payload that an accepted context is exported to, to be loaded at `load`: its size, or the refusal, which changes nothing.
-pub fn export(buf: &[u8], load: u64, out: &mut [u8]) -> Answer
+pub fn export(buf: &[u8], load: u64, out: &mut [u8]) -> Result<u32, Refusal>
     ensures { (result, out.new) ≡ exported buf.now load out.old }
 {
-    let answer = ultra_reading::used_length(buf, 2);
-    let Answer::Done(_) = answer else {
-        return answer;
-    };
+    ultra_reading::used_length(buf, 2)?;
     let payload = export_sizes::payload(buf);
     let size = 16 + 32 * payload.count + payload.width;
     let rsdp = platform::rsdp(buf, head::WIDTH);
     let room = lent_buffers::room(out) as u64;
-    let number = check(payload.count, size, load, rsdp, room);
-    if number != 0 {
-        return Answer::Refused(Refusal::new(number, 0));
+    if let Err(number) = check(payload.count, size, load, rsdp, room) {
+        return Err(Refusal::new(number, 0));
     }
     fill(buf, load, out, payload.count as u32, size as u32);
-    Answer::Done(size as u32)
+    Ok(size as u32)
 }

@@ -1,4 +1,5 @@
 -- Which refusal exporting gives, exactly.
+use Rattle.std.specs.Prelude.{Ok, Err}
 use Prim.Native.Nat.{ℕ, ◌+◌, ◌<◌}
 use mathlib.Core.Path.{◌≡◌, refl, sym, ap, ◌∙◌}
 use mathlib.Core.Logic.{◌↔◌, ◌⊎◌, inl, inr, ⊎_elim}
@@ -10,11 +11,9 @@ use lib.Dec.{leb}
 use Rattle.lent_buffers.specs.Room.{room_of}
 use Rattle.byte_layout.specs.Stored.{over, closed}
 use Rattle.refusals.specs.Refusals.{COUNT, RANGE, ROOM}
-use Rattle.refusals.specs.Answers.{number_of, value_of}
+use Rattle.refusals.specs.Answers.{Answer, number_of, value_of}
 use Rattle.refusals.specs.Order.{First, NoneBreaks}
 use Rattle.refusals.specs.declared.Refusal.{Refusal}
-use Rattle.refusals.specs.declared.Answer.{Answer}
-use Rattle.refusals.specs.declared.Answer.TheVariants.{Done, Refused}
 use Rattle.refusals.proofs.Order.{AllFine, Chain, ends, link, below, through, one_number, either_fails}
 use Rattle.ultra_format.specs.Contexts.{Platform, Body, Body.platform, Body.kernel, Body.memory_map, Body.module_info, Body.command_line, Body.framebuffer, Body.other, Context, body_at}
 use Rattle.ultra_format.specs.Decoding.{context_of}
@@ -121,14 +120,14 @@ module _ (b : List ℕ) (c : Context) (load : ℕ) (out : List ℕ) (h : HoldsCo
   given_chain : Chain export_order Given (export_check c load (room_of out))
   given_chain = chain c load (room_of out)
 
-  refuses : (r : Refusal) → ((exported b load out).0 ≡ Refused r) ↔ (First export_order Given (number_of (Refused r)) × (value_of (Refused r) ≡ 0))
+  refuses : (r : Refusal) → ((exported b load out).0 ≡ Err r) ↔ (First export_order Given (number_of (Err r)) × (value_of (Err r) ≡ 0))
   refuses r = rw of_context (refused_first who es out export_order Given _ given_chain r, first_refused who es out export_order Given _ given_chain r)
 
-  succeeds : (n : ℕ) → ((exported b load out).0 ≡ Done n) ↔ (NoneBreaks Given × (n ≡ (export_list c load).size))
+  succeeds : (n : ℕ) → ((exported b load out).0 ≡ Ok n) ↔ (NoneBreaks Given × (n ≡ (export_list c load).size))
   succeeds n = rw of_context (done_none who es out export_order Given _ given_chain (all_none c load (room_of out)) n, none_done who es out export_order Given _ given_chain n)
 
   -- what success answers and leaves
-  pub exported_whole : NoneBreaks Given → exported b load out ≡ (Done (payload_size who es), over (payload_bytes who es) out)
+  pub exported_whole : NoneBreaks Given → exported b load out ≡ (Ok (payload_size who es), over (payload_bytes who es) out)
   exported_whole k = of_context ∙ none_written who es out export_order Given _ given_chain k
 
 pub export_refuses : ExportRefuses
@@ -142,10 +141,10 @@ pub reading_first : ReadingFirst
 unfolding exported
 reading_first b load out r e = rw e
 
-kept_by : (a : Answer) (v : ℕ) (who : List ℕ) (es : List Entry) (out : List ℕ) (r : Refusal) → (if_accepted (λ q. (q, out)) (or_written v who es out) a).0 ≡ Refused r
+kept_by : (a : Answer) (v : ℕ) (who : List ℕ) (es : List Entry) (out : List ℕ) (r : Refusal) → (if_accepted (λ q. (q, out)) (or_written v who es out) a).0 ≡ Err r
     → (if_accepted (λ q. (q, out)) (or_written v who es out) a).1 ≡ out
-kept_by (Done n) v who es out r e = refused_stays who es out v r e
-kept_by (Refused q) v who es out r e = refl
+kept_by (Ok n) v who es out r e = refused_stays who es out v r e
+kept_by (Err q) v who es out r e = refl
 
 pub export_keeps : ExportKeeps
 unfolding exported

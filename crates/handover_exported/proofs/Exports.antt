@@ -1,4 +1,5 @@
 -- Exporting leaves a payload that is held, and so accepted and read as the list of the context.
+use Rattle.std.specs.Prelude.{Ok}
 use Prim.Native.Nat.{ℕ, zero, suc, ◌+◌, ◌≤◌, ◌<◌}
 use mathlib.Core.Path.{◌≡◌, refl, sym, ap, ◌∙◌, subst}
 use mathlib.Core.List.{List, [], ◌∷◌}
@@ -7,7 +8,6 @@ use lib.ListN.{length, get_or}
 use Rattle.byte_layout.specs.Stored.{over}
 use Rattle.lent_buffers.specs.Room.{room_of}
 use Rattle.refusals.specs.Order.{NoneBreaks}
-use Rattle.refusals.specs.declared.Answer.TheVariants.{Done}
 use Rattle.ultra_format.specs.Contexts.{Context, count, size_at, body_at, type_at}
 use Rattle.ultra_format.specs.Rules.{Meets}
 use Rattle.ultra_format.proofs.Attributes.{body_fits}
@@ -81,7 +81,7 @@ module _ (c : Context) (room load space : ℕ) (m : Meets 2 room c) (n : NoneBre
       }
 
 -- ---- what is left
-module _ (b : List ℕ) (c : Context) (load : ℕ) (out : List ℕ) (n : ℕ) (h : HoldsContext 2 b c) (a : (exported b load out).0 ≡ Done n) where
+module _ (b : List ℕ) (c : Context) (load : ℕ) (out : List ℕ) (n : ℕ) (h : HoldsContext 2 b c) (a : (exported b load out).0 ≡ Ok n) where
   abbrev who : List ℕ
   who = agent_of c
 

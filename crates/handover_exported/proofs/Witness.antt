@@ -1,4 +1,5 @@
 -- The examples: listed and every type by computing, from the contexts that their buffers hold; and what the statements say of them.
+use Rattle.std.specs.Prelude.{Ok}
 use Prim.Native.Nat.{ℕ}
 use mathlib.Core.Path.{◌≡◌, refl, ap, ◌∙◌, subst}
 use mathlib.Core.List.{List}
@@ -8,7 +9,6 @@ use Rattle.words.specs.Words.{number_at}
 use Rattle.byte_layout.specs.Fields.{cells, filled}
 use Rattle.byte_layout.specs.Stored.{bytes_at, text_at}
 use Rattle.refusals.specs.Answers.{refused}
-use Rattle.refusals.specs.declared.Answer.TheVariants.{Done}
 use Rattle.ultra_format.specs.Members.{every, size_suits, values, kernel_values, module_values, bpp_suits, framebuffer_values, texts, ascii_text, path_text, ranges, ordered, entries_ordered, body_check}
 use Rattle.ultra_format.specs.Places.{placed, occurs, place_check}
 use Rattle.ultra_format.specs.Decoding.{entries_at, decoded, start, attributes_from, context_of, types_before}
@@ -34,7 +34,7 @@ listed_held = (listed_meets, listed_opens)
 every_held : HoldsContext 2 every_type_bytes every_type
 every_held = (every_type_meets, every_type_opens)
 
-every_exported : exported every_type_bytes 1048576 (out 254) ≡ (Done 254, every_type_payload)
+every_exported : exported every_type_bytes 1048576 (out 254) ≡ (Ok 254, every_type_payload)
 unfolding cells filled entries_fields closed_if strings words_at placed_from tag_of range_entries pointer_entries records_of records_if gathered platform_or tests_of
 every_exported = of_context every_type_bytes every_type 1048576 (out 254) every_held ∙ refl
 
@@ -53,7 +53,7 @@ unfolding number_at text_at bytes_at entries_at every size_suits values kernel_v
 cut_short = refl
 
 -- ---- an RSDP address
-pointer_top_law : (exported (pointed (high 236)) 0 (out 114)).0 ≡ Done 114
+pointer_top_law : (exported (pointed (high 236)) 0 (out 114)).0 ≡ Ok 114
 unfolding number_at text_at bytes_at entries_at every size_suits values kernel_values texts ascii_text path_text ranges ordered entries_ordered body_check placed occurs place_check decoded start attributes_from context_of types_before head_check bounds_check attribute_check attributes_answer used_length closed_if strings tag_of pointer_entries records_of records_if gathered platform_or tests_of exported
 pointer_top_law = refl
 
@@ -61,7 +61,7 @@ pointer_past_law : exported (pointed (high 237)) 0 (out 114) ≡ (refused 15 0, 
 unfolding number_at text_at bytes_at entries_at every size_suits values kernel_values texts ascii_text path_text ranges ordered entries_ordered body_check placed occurs place_check decoded start attributes_from context_of types_before head_check bounds_check attribute_check attributes_answer used_length closed_if strings tag_of pointer_entries records_of records_if gathered platform_or tests_of exported
 pointer_past_law = refl
 
-pointer_none_law : (exported (pointed (zeros 8)) 0 (out 82)).0 ≡ Done 82
+pointer_none_law : (exported (pointed (zeros 8)) 0 (out 82)).0 ≡ Ok 82
 unfolding number_at text_at bytes_at entries_at every size_suits values kernel_values texts ascii_text path_text ranges ordered entries_ordered body_check placed occurs place_check decoded start attributes_from context_of types_before head_check bounds_check attribute_check attributes_answer used_length closed_if strings tag_of pointer_entries records_of records_if gathered platform_or tests_of exported
 pointer_none_law = refl
 

@@ -1,13 +1,12 @@
 -- Which refusal exporting gives, exactly, and what it then leaves. Each condition is asked by itself, whatever else is broken; which of several
 -- is given is said after them. Proved in proofs/ExportRefusals.antt: `export_refuses`, `export_succeeds`, `reading_first`, `export_keeps`.
 -- A reader has to believe this file.
-use Rattle.std.specs.Prelude.{ℕ, ◌+◌, ◌<◌, ◌≡◌, ◌↔◌, List, [], ◌∷◌}
+use Rattle.std.specs.Prelude.{ℕ, ◌+◌, ◌<◌, ◌≡◌, ◌↔◌, List, [], ◌∷◌, Ok, Err}
 use Rattle.lent_buffers.specs.Room.{room_of}
 use Rattle.refusals.specs.Refusals.{COUNT, RANGE, ROOM}
 use Rattle.refusals.specs.Answers.{number_of, value_of}
 use Rattle.refusals.specs.Order.{First, NoneBreaks}
 use Rattle.refusals.specs.declared.Refusal.{Refusal}
-use Rattle.refusals.specs.declared.Answer.TheVariants.{Done, Refused}
 use Rattle.ultra_format.specs.Contexts.{Platform, Body.platform, Context, body_at}
 use Rattle.ultra_reading.specs.Reading.{used_length}
 use Rattle.ultra_acceptance.specs.Acceptance.{HoldsContext}
@@ -34,18 +33,18 @@ export_order = COUNT ∷ RANGE ∷ ROOM ∷ []
 abbrev pub ExportRefuses : Type 0
 ExportRefuses =
     (b : List ℕ) (c : Context) (load : ℕ) (out : List ℕ) (r : Refusal) → HoldsContext 2 b c
-    → ((exported b load out).0 ≡ Refused r) ↔ (First export_order (ExportBreaks c load (room_of out)) (number_of (Refused r)) × (value_of (Refused r) ≡ 0))
+    → ((exported b load out).0 ≡ Err r) ↔ (First export_order (ExportBreaks c load (room_of out)) (number_of (Err r)) × (value_of (Err r) ≡ 0))
 
 -- where no condition is met, and nowhere else, the payload's size is answered
 abbrev pub ExportSucceeds : Type 0
 ExportSucceeds =
     (b : List ℕ) (c : Context) (load : ℕ) (out : List ℕ) (n : ℕ) → HoldsContext 2 b c
-    → ((exported b load out).0 ≡ Done n) ↔ (NoneBreaks (ExportBreaks c load (room_of out)) × (n ≡ (export_list c load).size))
+    → ((exported b load out).0 ≡ Ok n) ↔ (NoneBreaks (ExportBreaks c load (room_of out)) × (n ≡ (export_list c load).size))
 
 -- "Refusals, in order: the Ultra reader's at its offset"
 abbrev pub ReadingFirst : Type 0
-ReadingFirst = (b : List ℕ) (load : ℕ) (out : List ℕ) (r : Refusal) → used_length 2 b ≡ Refused r → exported b load out ≡ (Refused r, out)
+ReadingFirst = (b : List ℕ) (load : ℕ) (out : List ℕ) (r : Refusal) → used_length 2 b ≡ Err r → exported b load out ≡ (Err r, out)
 
 -- where exporting is refused, the output stays
 abbrev pub ExportKeeps : Type 0
-ExportKeeps = (b : List ℕ) (load : ℕ) (out : List ℕ) (r : Refusal) → (exported b load out).0 ≡ Refused r → (exported b load out).1 ≡ out
+ExportKeeps = (b : List ℕ) (load : ℕ) (out : List ℕ) (r : Refusal) → (exported b load out).0 ≡ Err r → (exported b load out).1 ≡ out

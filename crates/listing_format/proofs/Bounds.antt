@@ -1,4 +1,5 @@
 -- How long a listing can be: at most eight bytes for each byte of an attribute.
+use Rattle.std.specs.Prelude.{Ok, Err}
 use Prim.Native.Nat.{ℕ, zero, suc, ◌+◌, ◌-◌, ◌*◌, ◌/◌, ◌≤◌, ◌<◌}
 use mathlib.Core.Path.{◌≡◌, refl, sym}
 use mathlib.Core.Bool.{Bool, true, false}
@@ -16,8 +17,7 @@ use Rattle.ultra_format.specs.Members.{size_suits}
 use Rattle.ultra_format.specs.Decoding.{pick, platform_at, kernel_at, entries_at, decoded, start, stored_type, stored_size, stored_count, stored_attribute, attributes_from, context_of}
 use Rattle.ultra_format.proofs.Bodies.{by_type}
 use Rattle.ultra_format.proofs.Sizes.{platform_least, kernel_least, module_least, framebuffer_least, line_least, map_size_law}
-use Rattle.refusals.specs.declared.Answer.{Answer}
-use Rattle.refusals.specs.declared.Answer.TheVariants.{Done, Refused}
+use Rattle.refusals.specs.Answers.{Answer}
 use Rattle.ultra_reading.specs.Reading.{used_length}
 use Rattle.ultra_locating.specs.Passing.{Accepts}
 use Rattle.ultra_locating.proofs.Located.{inside}
@@ -123,8 +123,8 @@ module _ (b : List ℕ) (a : Accepts b) where
 
 -- ---- every buffer
 by_answer : (b : List ℕ) (r : Answer) → used_length 2 b ≡ r → length (lines_bytes (lines_when (context_of b) r)) ≤ 524352
-by_answer b (Done n) e = context_most b (n, e)
-by_answer b (Refused r) e = omega (arith, lines_short (refused_lines r))
+by_answer b (Ok n) e = context_most b (n, e)
+by_answer b (Err r) e = omega (arith, lines_short (refused_lines r))
 
 pub listing_fits : ListingFits
 unfolding lines_of

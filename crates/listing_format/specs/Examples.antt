@@ -1,13 +1,11 @@
 -- Statement: the listing of document 01, and of a context with every type, whose silent bytes are not zero, of one with absent members, of
 -- a refused buffer, and how numbers and texts are spelled at their boundaries. Proved in proofs/Examples.antt: `examples`.
 -- A reader has to believe this file.
-use Rattle.std.specs.Prelude.{ℕ, ◌≡◌, List, [], ◌∷◌, ◌++◌, replicate}
+use Rattle.std.specs.Prelude.{ℕ, ◌≡◌, List, [], ◌∷◌, ◌++◌, replicate, Ok}
 use Rattle.text_output.specs.Spelling.{ascii, each, decimal, spelled}
 use Rattle.ultra_format.specs.Examples.{listed_bytes, every_type_bytes}
 use Rattle.ultra_reading.specs.Cases.{head}
-use Rattle.refusals.specs.Answers.{refused}
-use Rattle.refusals.specs.declared.Answer.{Answer}
-use Rattle.refusals.specs.declared.Answer.TheVariants.{Done}
+use Rattle.refusals.specs.Answers.{Answer, refused}
 use Rattle.listing_format.specs.Listing.{listing, listed}
 
 -- "The whole listing of a context with four attributes"
@@ -101,8 +99,8 @@ pub record Examples : Type 0 where
   -- "H alone: HEADER at 8"
   pub refused : listing head ≡ ascii "refused=5,8\n"
   -- into an output of just its length, of one byte more, and of one less: "a lent output is too short"
-  pub fits : head_listed 12 ≡ (Done 12, ascii "refused=5,8\n")
-  pub roomy : head_listed 13 ≡ (Done 12, ascii "refused=5,8\n" ++ (165 ∷ []))
+  pub fits : head_listed 12 ≡ (Ok 12, ascii "refused=5,8\n")
+  pub roomy : head_listed 13 ≡ (Ok 12, ascii "refused=5,8\n" ++ (165 ∷ []))
   pub too_short : head_listed 11 ≡ (no_room, replicate 11 165)
   -- "bytes 1 to 31, 37, and 127 to 255", and their neighbours
   pub escapes : each spelled (1 ∷ 31 ∷ 32 ∷ 36 ∷ 37 ∷ 38 ∷ 126 ∷ 127 ∷ 255 ∷ []) ≡ ascii "%01%1F $%25&~%7F%FF"

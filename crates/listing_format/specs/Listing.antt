@@ -1,7 +1,7 @@
 -- The listing of a context: document 01, "The listing". "A program reads up to 65,536 bytes of standard input and prints key=value lines."
 -- What is listed, and in which order, is said here as lines; how a line is spelled is crates key_value_text and text_output.
 -- A reader has to believe this file.
-use Rattle.std.specs.Prelude.{ℕ, ◌≤◌, List, [], ◌∷◌, ◌++◌, length, leb, eqb}
+use Rattle.std.specs.Prelude.{ℕ, ◌≤◌, List, [], ◌∷◌, ◌++◌, length, leb, eqb, Ok, Err}
 use Prim.Native.String.{String}
 use Prim.Native.Char.{code}
 use Rattle.byte_layout.specs.Stored.{over}
@@ -11,10 +11,8 @@ use Rattle.ultra_format.specs.Contexts.{Member, Platform, Kernel, Entry, Module,
 use Rattle.ultra_format.specs.Contexts.{Member.present, Member.absent, Body.platform, Body.kernel, Body.memory_map, Body.module_info, Body.command_line, Body.framebuffer, Body.other}
 use Rattle.ultra_format.specs.Decoding.{pick, context_of}
 use Rattle.refusals.specs.Refusals.{ROOM}
-use Rattle.refusals.specs.Answers.{refused}
+use Rattle.refusals.specs.Answers.{Answer, refused}
 use Rattle.refusals.specs.declared.Refusal.{Refusal}
-use Rattle.refusals.specs.declared.Answer.{Answer}
-use Rattle.refusals.specs.declared.Answer.TheVariants.{Done, Refused}
 use Rattle.ultra_reading.specs.Reading.{used_length}
 
 -- ---- lines of each form
@@ -127,8 +125,8 @@ refused_lines r = commas "refused" (r.number ∷ r.offset ∷ []) ∷ []
 
 -- ---- of a buffer
 abbrev pub lines_when : Context → Answer → List Line
-lines_when c (Done n) = context_lines c
-lines_when c (Refused r) = refused_lines r
+lines_when c (Ok n) = context_lines c
+lines_when c (Err r) = refused_lines r
 
 unfoldable pub lines_of : List ℕ → List Line
 lines_of b = lines_when (context_of b) (used_length 2 b)
@@ -139,7 +137,7 @@ listing b = lines_bytes (lines_of b)
 
 -- ---- what `list` answers, and what the output has afterwards: "a lent output is too short" is 18, which changes nothing
 abbrev pub text_listed : List ℕ → List ℕ → Answer × List ℕ
-text_listed t out = pick (leb (length t) (length out)) (Done (length t), over t out) (refused ROOM 0, out)
+text_listed t out = pick (leb (length t) (length out)) (Ok (length t), over t out) (refused ROOM 0, out)
 
 unfoldable pub listed : List ℕ → List ℕ → Answer × List ℕ
 listed b out = text_listed (listing b) out

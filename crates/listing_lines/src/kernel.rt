@@ -11,6 +11,7 @@ use crate::numbers::three;
 use ultra_layout::kernel;
 
 // "for type 3 a line `guids`": the two arrays stand side by side.
+#[tactic(auto, using(listing_format::proofs::LineLaws::guid_bytes))]
 fn guids(out: &mut [u8], to: u32, buf: &[u8], at: usize) -> u32
     requires { at + kernel_size ≤ length buf.now }
     ensures { (out.new, result) ≡ put_lines (out.old, to) (guid_lines (kernel_at buf.now at)) }
@@ -50,6 +51,7 @@ fn partition(out: &mut [u8], to: u32, buf: &[u8], at: usize) -> u32
     three(out, to, b"partition", kind, disk, index)
 }
 
+#[tactic(auto, using(key_value_text::proofs::LinePuts::lines_append))]
 pub fn write(out: &mut [u8], to: u32, buf: &[u8], at: usize) -> u32
     requires { at + kernel_size ≤ length buf.now }
     ensures { (out.new, result) ≡ put_lines (out.old, to) (kernel_lines (kernel_at buf.now at)) }

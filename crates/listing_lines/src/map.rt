@@ -21,19 +21,19 @@ fn range(out: &mut [u8], to: u32, buf: &[u8], at: usize) -> u32
 }
 
 // The `n` entries from `at` on, few enough that where each starts fits.
+#[tactic(auto, using(listing_format::proofs::LineLaws::range_next, listing_format::proofs::LineLaws::range_end))]
 fn ranges(out: &mut [u8], to: u32, buf: &[u8], at: usize, n: usize) -> u32
     requires { (at + entry_size * n ≤ length buf.now) × (n ≤ 4294967295) }
     ensures { (out.new, result) ≡ put_lines (out.old, to) (range_lines (entries_at buf.now at n)) }
 {
     let mut end = to;
-    let mut i = 0;
-    while i < n {
+    for i in 0..n {
         end = range(out, end, buf, at + entry::WIDTH * i);
-        i += 1;
     }
     end
 }
 
+#[tactic(auto, using(listing_format::proofs::LineLaws::length_entries))]
 pub fn write(out: &mut [u8], to: u32, buf: &[u8], at: usize, size: u32) -> u32
     requires { (at + size ≤ length buf.now) × (8 ≤ size) }
     ensures { (out.new, result) ≡ put_lines (out.old, to) (map_lines (entries_at buf.now (at + 8) ((size - 8) / entry_size))) }

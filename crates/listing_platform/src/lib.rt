@@ -24,6 +24,7 @@ fn late(out: &mut [u8], to: u32, key: &[u8], buf: &[u8], at: usize, size: u32, o
 }
 
 // The depth: one byte.
+#[tactic(auto, using(listing_format::proofs::LineLaws::byte_number))]
 fn depth(out: &mut [u8], to: u32, key: &[u8], buf: &[u8], at: usize, size: u32) -> u32
     requires { at + size ≤ length buf.now }
     ensures { (out.new, result) ≡ puts (out.old, to) (line_bytes (member key.now (member_at buf.now at size 64 1))) }
