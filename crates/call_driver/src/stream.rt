@@ -5,35 +5,27 @@ use full_reads::read_full;
 use std::io;
 use std::io::{Read, Write};
 
-// Reads the next frame to the front of `frame`, if there is memory for it, and answers where it ends; 0 where the input ends before.
-fn next<R: Read>(input: &mut R, frame: &mut [u8]) -> usize {
-    if frame.len() < HEAD {
-        return 0;
-    }
-    let head = read_full(input, &mut frame[0..HEAD]);
-    if head < HEAD {
-        return 0;
+// Reads the next frame to the front of `frame`, if there is memory for it, and answers where it ends; none where the input ends before.
+fn next<R: Read>(input: &mut R, frame: &mut [u8]) -> Option<usize> {
+    if frame.len() < HEAD || read_full(input, &mut frame[..HEAD]) < HEAD {
+        return None;
     }
     let rest = words::load_u32(frame, REST) as usize;
     let end = HEAD + rest;
     if frame.len() < end {
-        return end;
+        return Some(end);
     }
     let read = read_full(input, &mut frame[HEAD..end]);
-    if read < rest {
-        return 0;
-    }
-    end
+    (read == rest).then_some(end)
 }
 
 // Writes the answer that ends before `end`, so that a caller who waits for it has it, and answers whether there was memory for it.
 fn write<W: Write>(output: &mut W, out: &mut [u8], end: u32) -> io::Result<bool> {
     reply::finish(out, end);
-    let n = end as usize;
-    if out.len() < n {
+    let Some(written) = out.get(..end as usize) else {
         return Ok(false);
-    }
-    output.write_all(&out[0..n])?;
+    };
+    output.write_all(written)?;
     output.flush()?;
     Ok(true)
 }
@@ -43,14 +35,7 @@ fn malformed<W: Write>(output: &mut W, out: &mut [u8]) -> io::Result<bool> {
     write(output, out, end)
 }
 
-// What is left of a call that was answered: how long the buffer is, and whether the answer was written.
-#[derive(Clone, Copy)]
-struct Answered {
-    held: usize,
-    written: bool,
-}
-
-// Answers the call of a frame.
+// Answers the call of a frame, and answers how long the buffer is then; none where there was no memory for the answer.
 fn answer<W: Write>(
     output: &mut W,
     frame: &mut [u8],
@@ -58,18 +43,15 @@ fn answer<W: Write>(
     held: usize,
     numbers: &mut [u64],
     out: &mut [u8],
-) -> io::Result<Answered> {
+) -> io::Result<Option<usize>> {
     if !framed_calls::suits(frame, buffer.len(), numbers.len()) {
         let written = malformed(output, out)?;
-        return Ok(Answered { held, written });
+        return Ok(written.then_some(held));
     }
     let length = framed_calls::load(frame, buffer, held);
-    let end = framed_calls::make(frame, &mut buffer[0..length], numbers, out);
+    let end = framed_calls::make(frame, &mut buffer[..length], numbers, out);
     let written = write(output, out, end)?;
-    Ok(Answered {
-        held: length,
-        written,
-    })
+    Ok(written.then_some(length))
 }
 
 // Answers frame after frame until the input ends or an answer is not written: 2^64 - 1 frames at most, since a program that is proved has
@@ -83,22 +65,18 @@ fn serve<R: Read, W: Write>(
     out: &mut [u8],
 ) -> io::Result<()> {
     let mut held = 0;
-    let mut left: u64 = 18446744073709551615;
-    while 0 < left {
-        let end = next(input, frame);
-        if end == 0 {
-            return Ok(());
-        }
+    for _ in 0..u64::MAX {
+        let Some(end) = next(input, frame) else {
+            break;
+        };
         if frame.len() < end {
             malformed(output, out)?;
-            return Ok(());
+            break;
         }
-        let answered = answer(output, &mut frame[0..end], buffer, held, numbers, out)?;
-        if !answered.written {
-            return Ok(());
+        match answer(output, &mut frame[..end], buffer, held, numbers, out)? {
+            Some(length) => held = length,
+            None => break,
         }
-        held = answered.held;
-        left -= 1;
     }
     Ok(())
 }

@@ -1,20 +1,20 @@
 // Frames of answers: the call, its numbers, the buffer after it, and what else is handed back.
 use crate::reply;
-use refusals::Answer;
+use refusals::Refusal;
 
 // 0, or a refusal's number.
-pub fn number(answer: Answer) -> u64 {
+pub fn number(answer: Result<u32, Refusal>) -> u64 {
     match answer {
-        Answer::Done(_) => 0,
-        Answer::Refused(refusal) => refusal.number as u64,
+        Ok(_) => 0,
+        Err(refusal) => refusal.number as u64,
     }
 }
 
 // The value, or a refusal's offset.
-pub fn value(answer: Answer) -> u64 {
+pub fn value(answer: Result<u32, Refusal>) -> u64 {
     match answer {
-        Answer::Done(value) => value as u64,
-        Answer::Refused(refusal) => refusal.offset as u64,
+        Ok(value) => value as u64,
+        Err(refusal) => refusal.offset as u64,
     }
 }
 
@@ -31,12 +31,18 @@ pub fn numbers(out: &mut [u8], call: u32, numbers: &[u64], buf: &[u8]) -> u32 {
 }
 
 // Number and value alone, and the buffer, which is the first of `strings` strings.
-pub fn begin_plain(out: &mut [u8], call: u32, answer: Answer, strings: u32, buf: &[u8]) -> u32 {
+pub fn begin_plain(
+    out: &mut [u8],
+    call: u32,
+    answer: Result<u32, Refusal>,
+    strings: u32,
+    buf: &[u8],
+) -> u32 {
     begin(out, call, &[number(answer), value(answer)], strings, buf)
 }
 
 // Number and value, and the buffer.
-pub fn plain(out: &mut [u8], call: u32, answer: Answer, buf: &[u8]) -> u32 {
+pub fn plain(out: &mut [u8], call: u32, answer: Result<u32, Refusal>, buf: &[u8]) -> u32 {
     begin_plain(out, call, answer, 1, buf)
 }
 

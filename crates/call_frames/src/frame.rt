@@ -1,5 +1,5 @@
 // What a frame has. Each function answers for any bytes: 0 or nothing where the frame ends too early.
-ghost use Rattle.std.specs.Prelude.{◌≤◌, length};
+ghost use Rattle.std.specs.Prelude.{◌≤◌, IfSome, length};
 
 // The bytes before a frame's numbers, and where they say how many numbers, strings and further bytes there are.
 pub const HEAD: usize = 16;
@@ -15,13 +15,10 @@ const KEPT: u32 = 4294967295;
 
 // The word at `at`.
 fn word(frame: &[u8], at: usize) -> u32 {
-    if frame.len() < 4 {
-        return 0;
+    match frame.len().checked_sub(4) {
+        Some(last) if at <= last => words::load_u32(frame, at),
+        _ => 0,
     }
-    if frame.len() - 4 < at {
-        return 0;
-    }
-    words::load_u32(frame, at)
 }
 
 // The number at `index`.
@@ -52,102 +49,56 @@ fn length(frame: &[u8], index: u32, at: usize) -> usize {
     stored as usize
 }
 
-// Whether the `n` bytes of a string lie within the frame, its length being at `at`.
-fn fits(frame: &[u8], at: usize, n: usize) -> bool {
-    if frame.len() < at {
-        return false;
-    }
-    let left = frame.len() - at;
-    if left < 4 {
-        return false;
-    }
-    n <= left - 4
-}
-
-// The place after the string at `index`; the frame's end, where the string does not lie within it.
-fn after(frame: &[u8], index: u32, at: usize) -> usize
-    ensures { result ≤ length frame.now }
+// The place after the string at `index`, whose length is at `at`; none where the string does not lie within the frame.
+fn after(frame: &[u8], index: u32, at: usize) -> Option<usize>
+    ensures { IfSome result (λ end. end ≤ length frame.now) }
 {
     let n = length(frame, index, at);
-    if frame.len() < at {
-        return frame.len();
+    let left = frame.len().checked_sub(at)?.checked_sub(4)?;
+    if left < n {
+        return None;
     }
-    let left = frame.len() - at;
-    if left < 4 {
-        return frame.len();
-    }
-    if left - 4 < n {
-        return frame.len();
-    }
-    at + 4 + n
+    Some(at + 4 + n)
+}
+
+// The place after the first `count` strings, if they lie within the frame.
+fn after_all(frame: &[u8], count: u32) -> Option<usize> {
+    (0..count).try_fold(first_at(frame), |at, index| after(frame, index, at))
 }
 
 // Where the length of the string at `index` is.
 fn string_at(frame: &[u8], index: u32) -> usize {
-    let mut at = first_at(frame);
-    let mut i = 0;
-    while i < index {
-        at = after(frame, i, at);
-        i += 1;
-    }
-    at
+    after_all(frame, index).unwrap_or(frame.len())
 }
 
 // Where the bytes of the string at `index` start; at most the frame's end.
 pub fn string_start(frame: &[u8], index: u32) -> usize
     ensures { result ≤ length frame.now }
 {
-    let at = string_at(frame, index);
-    if frame.len() < 4 {
-        return frame.len();
-    }
-    if frame.len() - 4 < at {
-        return frame.len();
-    }
-    at + 4
+    string_at(frame, index).saturating_add(4).min(frame.len())
 }
 
 // The string at `index`.
 pub fn string(frame: &[u8], index: u32) -> &[u8] {
-    let at = string_at(frame, index);
     let start = string_start(frame, index);
-    let end = after(frame, index, at);
-    if end < start {
-        return &frame[0..0];
-    }
-    &frame[start..end]
+    let end = after(frame, index, string_at(frame, index)).unwrap_or(frame.len());
+    frame.get(start..end).unwrap_or(b"")
 }
 
 // Takes a number out of each 8 bytes, as many as there are whole and as `numbers` holds; answers how many.
 pub fn load_numbers(bytes: &[u8], numbers: &mut [u64]) -> usize
     ensures { result ≤ length numbers.new }
 {
-    let n = crate::least(bytes.len() / 8, numbers.len());
-    let mut i = 0;
-    while i < n {
-        numbers[i] = words::load_u64(bytes, 8 * i);
-        i += 1;
+    let (whole, _) = bytes.as_chunks::<8>();
+    for (number, bytes) in numbers.iter_mut().zip(whole) {
+        *number = u64::from_le_bytes(*bytes);
     }
-    n
+    whole.len().min(numbers.len())
 }
 
 // Whether the frame has that many numbers and strings, and nothing else.
 pub fn well_formed(frame: &[u8], numbers: u32, strings: u32) -> bool {
-    if word(frame, NUMBERS) != numbers {
-        return false;
-    }
-    if word(frame, STRINGS) != strings {
-        return false;
-    }
-    let mut at = first_at(frame);
-    let mut i = 0;
-    while i < strings {
-        let n = length(frame, i, at);
-        if !fits(frame, at, n) {
-            return false;
-        }
-        at = after(frame, i, at);
-        i += 1;
-    }
-    at == frame.len()
+    word(frame, NUMBERS) == numbers
+        && word(frame, STRINGS) == strings
+        && after_all(frame, strings) == Some(frame.len())
 }

@@ -3,15 +3,11 @@ use crate::frame::{HEAD, REST};
 use text_output::put_all;
 
 fn word(out: &mut [u8], to: u32, number: u32) -> u32 {
-    let mut bytes = [0u8; 4];
-    words::store_u32(&mut bytes, 0, number);
-    put_all(out, to, &bytes)
+    put_all(out, to, &number.to_le_bytes())
 }
 
 fn number(out: &mut [u8], to: u32, number: u64) -> u32 {
-    let mut bytes = [0u8; 8];
-    words::store_u64(&mut bytes, 0, number);
-    put_all(out, to, &bytes)
+    put_all(out, to, &number.to_le_bytes())
 }
 
 // The head, which says what `finish` completes: how many bytes follow it.
@@ -24,10 +20,8 @@ pub fn head(out: &mut [u8], call: u32, numbers: u32, strings: u32) -> u32 {
 
 pub fn numbers(out: &mut [u8], to: u32, numbers: &[u64]) -> u32 {
     let mut at = to;
-    let mut i = 0;
-    while i < numbers.len() {
-        at = number(out, at, numbers[i]);
-        i += 1;
+    for given in numbers {
+        at = number(out, at, *given);
     }
     at
 }

@@ -1,33 +1,27 @@
 // A framebuffer, added after a platform and a kernel.
-use crate::{Kind, cases};
 use cases_adds::context;
-use cases_text::table::Values;
+use cases_text::table::{Row, rows};
 use std::io;
 use ultra_format::FramebufferRecord;
 
-fn record(given: [u64; 6]) -> FramebufferRecord {
-    FramebufferRecord {
-        width: (given[0] % 4294967296) as u32,
-        height: (given[1] % 4294967296) as u32,
-        pitch: (given[2] % 4294967296) as u32,
-        bpp: (given[3] % 65536) as u16,
-        format: (given[4] % 65536) as u16,
-        address: given[5],
-    }
-}
-
 // Its width, height, pitch, bpp, format and address.
-pub fn members(rt: &impl Print, label: &[u8], values: Values) -> io::Result<()> {
-    let given = values.numbers;
-    let record = record(given);
-    let buf = context::kernel();
-    cases_adds::framebuffer(rt, label, buf, record)
+fn members(rt: &impl Print, row: Row<'_>) -> io::Result<()> {
+    let [width, height, pitch, bpp, format, address] = row.numbers::<6>();
+    let record = FramebufferRecord {
+        width: (width % 4294967296) as u32,
+        height: (height % 4294967296) as u32,
+        pitch: (pitch % 4294967296) as u32,
+        bpp: (bpp % 65536) as u16,
+        format: (format % 65536) as u16,
+        address,
+    };
+    cases_adds::add(rt, row.label, context::kernel(), |buf| {
+        ultra_building::add_framebuffer(buf, record)
+    })
 }
 
 fn pixels(rt: &impl Print) -> io::Result<()> {
-    cases(
-        rt,
-        Kind::Framebuffer,
+    rows(
         b"\
         framebuffer: 1024 768 4100 32 3 3489660928\n\
         framebuffer of format 0, 24 bits: 1024 768 4100 24 0 3489660928\n\
@@ -42,13 +36,12 @@ fn pixels(rt: &impl Print) -> io::Result<()> {
         framebuffer of format 5, 24 bits: 1024 768 4100 24 5 3489660928\n\
         framebuffer of format 5, 32 bits: 1024 768 4100 32 5 3489660928\n",
     )
+    .try_for_each(|row| members(rt, row))
 }
 
 // In the last, two rules are broken; the lower number is given.
 fn rows_and_ends(rt: &impl Print) -> io::Result<()> {
-    cases(
-        rt,
-        Kind::Framebuffer,
+    rows(
         b"\
         framebuffer of width 3, 24 bits, pitch 9: 3 768 9 24 1 3489660928\n\
         framebuffer of width 3, 24 bits, pitch 8: 3 768 8 24 1 3489660928\n\
@@ -62,6 +55,7 @@ fn rows_and_ends(rt: &impl Print) -> io::Result<()> {
         framebuffer, greatest pitch and height at 2^33: 1024 4294967295 4294967295 32 3 8589934592\n\
         framebuffer of format 0, end above 2^64: 1024 768 4100 32 0 18446744073709551615\n",
     )
+    .try_for_each(|row| members(rt, row))
 }
 
 pub fn all(rt: &impl Print) -> io::Result<()> {

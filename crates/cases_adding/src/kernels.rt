@@ -1,34 +1,32 @@
 // The kernel, added after a platform.
-use crate::{Kind, cases};
 use cases_adds::context;
 use cases_shared::given;
-use cases_text::table::Values;
+use cases_text::table::{Row, rows};
 use std::io;
 use ultra_format::KernelRecord;
 
 fn kernel(rt: &impl Print, label: &[u8], record: KernelRecord) -> io::Result<()> {
-    let buf = context::platform();
-    cases_adds::kernel(rt, label, buf, record)
+    cases_adds::add(rt, label, context::platform(), |buf| {
+        ultra_building::add_kernel(buf, record)
+    })
 }
 
 // Its physical and virtual base, size and partition type; and 1 for a path of 0 bytes.
-pub fn members(rt: &impl Print, label: &[u8], values: Values) -> io::Result<()> {
-    let given = values.numbers;
+fn members(rt: &impl Print, row: Row<'_>) -> io::Result<()> {
+    let [physical_base, virtual_base, size, partition_type, pathless] = row.numbers::<5>();
     let mut record = given::kernel();
-    record.physical_base = given[0];
-    record.virtual_base = given[1];
-    record.size = given[2];
-    record.partition_type = given[3];
-    if given[4] == 1 {
+    record.physical_base = physical_base;
+    record.virtual_base = virtual_base;
+    record.size = size;
+    record.partition_type = partition_type;
+    if pathless == 1 {
         record.path = [0u8; 256];
     }
-    kernel(rt, label, record)
+    kernel(rt, row.label, record)
 }
 
 fn places(rt: &impl Print) -> io::Result<()> {
-    cases(
-        rt,
-        Kind::Kernel,
+    rows(
         b"\
         kernel: 2097152 18446744071564165120 65536 2\n\
         kernel of partition type 0: 2097152 18446744071564165120 65536 0\n\
@@ -46,6 +44,7 @@ fn places(rt: &impl Print) -> io::Result<()> {
         kernel, virtual end at 2^64: 4096 18446744073709547520 4096 8\n\
         kernel, virtual end a page above 2^64: 4096 18446744073709547520 8192 8\n",
     )
+    .try_for_each(|row| members(rt, row))
 }
 
 fn full_path(rt: &impl Print, label: &[u8], path: [u8; 256]) -> io::Result<()> {
@@ -54,37 +53,34 @@ fn full_path(rt: &impl Print, label: &[u8], path: [u8; 256]) -> io::Result<()> {
     kernel(rt, label, record)
 }
 
-pub fn from(rt: &impl Print, label: &[u8], text: &[u8]) -> io::Result<()> {
-    let path = given::path(text);
-    full_path(rt, label, path)
+fn with_path(rt: &impl Print, row: Row<'_>) -> io::Result<()> {
+    full_path(rt, row.label, given::field(row.given))
 }
 
 fn paths(rt: &impl Print) -> io::Result<()> {
-    cases(rt, Kind::KernelPath, b"kernel, path of 1 byte: /\n")?;
+    rows(b"kernel, path of 1 byte: /\n").try_for_each(|row| with_path(rt, row))?;
     let mut path = [b'/'; 256];
     path[255] = 0;
     full_path(rt, b"kernel, path of 255 bytes", path)?;
     full_path(rt, b"kernel, path of 256 bytes", [b'/'; 256])?;
-    cases(
-        rt,
-        Kind::KernelPath,
+    rows(
         b"\
         kernel, path of 0 bytes: \n\
         kernel, path without its slash: boot/k\n\
         kernel, path with a zero inside: /boot\0k\n\
         kernel, path with bytes 128 and 255: /b\x80\xff/k\n",
     )
+    .try_for_each(|row| with_path(rt, row))
 }
 
 // Two rules are broken; the lower number is given.
 fn two_rules(rt: &impl Print) -> io::Result<()> {
-    cases(
-        rt,
-        Kind::Kernel,
+    rows(
         b"\
         kernel at physical 4095, path of 0 bytes: 4095 18446744071564165120 65536 8 1\n\
         kernel, path of 0 bytes, end above 2^64: 18446744073709547520 18446744071564165120 65536 8 1\n",
     )
+    .try_for_each(|row| members(rt, row))
 }
 
 pub fn all(rt: &impl Print) -> io::Result<()> {

@@ -1,17 +1,16 @@
 // The command line, added after a platform and a kernel.
-use crate::{Kind, cases};
 use cases_adds::context;
+use cases_text::table::{Row, rows};
 use std::io;
 
-pub fn command_line(rt: &impl Print, label: &[u8], text: &[u8]) -> io::Result<()> {
-    let buf = context::kernel();
-    cases_adds::command_line(rt, label, buf, text)
+fn command_line(rt: &impl Print, row: Row<'_>) -> io::Result<()> {
+    cases_adds::add(rt, row.label, context::kernel(), |buf| {
+        ultra_building::add_command_line(buf, row.given)
+    })
 }
 
 pub fn all(rt: &impl Print) -> io::Result<()> {
-    cases(
-        rt,
-        Kind::Line,
+    rows(
         b"\
         line of 0 bytes: \n\
         line of 7 bytes: 1234567\n\
@@ -25,4 +24,5 @@ pub fn all(rt: &impl Print) -> io::Result<()> {
         line with byte 128: quiet\x80\n\
         line with byte 255: \xffquiet\n",
     )
+    .try_for_each(|row| command_line(rt, row))
 }

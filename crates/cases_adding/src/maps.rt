@@ -1,27 +1,20 @@
 // The memory map, added after a platform and a kernel.
-use crate::{Kind, cases};
 use cases_adds::context;
-use cases_text::table::Values;
+use cases_text::table::{Row, rows};
 use std::io;
 
-fn first(rt: &impl Print, label: &[u8], numbers: &[u64], count: usize) -> io::Result<()> {
-    if count <= numbers.len() {
-        let buf = context::kernel();
-        cases_adds::map(rt, label, buf, &numbers[0..count])?;
-    }
-    Ok(())
-}
-
 // The numbers of its entries: address, size and type of each.
-pub fn map(rt: &impl Print, label: &[u8], values: Values) -> io::Result<()> {
-    let numbers = values.numbers;
-    first(rt, label, &numbers, values.count)
+fn map(rt: &impl Print, row: Row<'_>) -> io::Result<()> {
+    let mut space = [0; 6];
+    let count = row.put_numbers(&mut space);
+    let numbers = &space[..count];
+    cases_adds::add(rt, row.label, context::kernel(), |buf| {
+        ultra_building::add_map(buf, numbers)
+    })
 }
 
 fn order_and_range(rt: &impl Print) -> io::Result<()> {
-    cases(
-        rt,
-        Kind::Map,
+    rows(
         b"\
         map (0, 4096), (4096, 1): 0 4096 1 4096 1 1\n\
         map (0, 4097), (4096, 1): 0 4097 1 4096 1 1\n\
@@ -34,13 +27,12 @@ fn order_and_range(rt: &impl Print) -> io::Result<()> {
         map, 2^64 - 1 bytes at 1: 1 18446744073709551615 1\n\
         map, 2^64 - 1 bytes at 2: 2 18446744073709551615 1\n",
     )
+    .try_for_each(|row| map(rt, row))
 }
 
 // In the last three, all entries are tried for a rule before the next rule.
 fn value_and_form(rt: &impl Print) -> io::Result<()> {
-    cases(
-        rt,
-        Kind::Map,
+    rows(
         b"\
         map of type 0: 4096 4096 0\n\
         map of type 4294967296: 4096 4096 4294967296\n\
@@ -54,6 +46,7 @@ fn value_and_form(rt: &impl Print) -> io::Result<()> {
         map, wrong order, then an end above 2^64: 0 4097 1 4096 18446744073709551615 1\n\
         map, end above 2^64, then type 0: 18446744073709547520 4097 1 0 0 0\n",
     )
+    .try_for_each(|row| map(rt, row))
 }
 
 pub fn all(rt: &impl Print) -> io::Result<()> {

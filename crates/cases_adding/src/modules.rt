@@ -1,33 +1,31 @@
 // A module, added after a platform and a kernel.
-use crate::{Kind, cases};
 use cases_adds::context;
 use cases_shared::given;
-use cases_text::table::Values;
+use cases_text::table::{Row, rows};
 use std::io;
 use ultra_format::ModuleRecord;
 
 fn module(rt: &impl Print, label: &[u8], record: ModuleRecord) -> io::Result<()> {
-    let buf = context::kernel();
-    cases_adds::module(rt, label, buf, record)
+    cases_adds::add(rt, label, context::kernel(), |buf| {
+        ultra_building::add_module(buf, record)
+    })
 }
 
 // Its type, address and size; and 1 for a name of bytes 128.
-pub fn members(rt: &impl Print, label: &[u8], values: Values) -> io::Result<()> {
-    let given = values.numbers;
+fn members(rt: &impl Print, row: Row<'_>) -> io::Result<()> {
+    let [kind, address, size, badly_named] = row.numbers::<4>();
     let mut record = given::module();
-    record.kind = (given[0] % 4294967296) as u32;
-    record.address = given[1];
-    record.size = given[2];
-    if given[3] == 1 {
+    record.kind = (kind % 4294967296) as u32;
+    record.address = address;
+    record.size = size;
+    if badly_named == 1 {
         record.name = [128u8; 64];
     }
-    module(rt, label, record)
+    module(rt, row.label, record)
 }
 
 fn places(rt: &impl Print) -> io::Result<()> {
-    cases(
-        rt,
-        Kind::Module,
+    rows(
         b"\
         module: 1 16777216 123457\n\
         module of type 0: 0 16777216 123457\n\
@@ -40,19 +38,17 @@ fn places(rt: &impl Print) -> io::Result<()> {
         module, end at 2^64: 1 18446744073709547520 4096\n\
         module, end above 2^64: 1 18446744073709547520 4097\n",
     )
+    .try_for_each(|row| members(rt, row))
 }
 
-pub fn named(rt: &impl Print, label: &[u8], text: &[u8]) -> io::Result<()> {
+fn named(rt: &impl Print, row: Row<'_>) -> io::Result<()> {
     let mut record = given::module();
-    let name = given::module_name(text);
-    record.name = name;
-    module(rt, label, record)
+    record.name = given::field(row.given);
+    module(rt, row.label, record)
 }
 
 fn names(rt: &impl Print) -> io::Result<()> {
-    cases(
-        rt,
-        Kind::ModuleName,
+    rows(
         b"\
         module, name of 0 bytes: \n\
         module, name of 63 bytes: nnnnnnnnnnnnnnnnnnnnnnnnnnnnnnnnnnnnnnnnnnnnnnnnnnnnnnnnnnnnnnn\n\
@@ -61,17 +57,17 @@ fn names(rt: &impl Print) -> io::Result<()> {
         module, name with byte 127: initrd\x7f\n\
         module, name with byte 128: initrd\x80\n",
     )
+    .try_for_each(|row| named(rt, row))
 }
 
 // Two rules are broken; the lower number is given.
 fn two_rules(rt: &impl Print) -> io::Result<()> {
-    cases(
-        rt,
-        Kind::Module,
+    rows(
         b"\
         module of type 0, bad name: 0 16777216 123457 1\n\
         module, bad name, end above 2^64: 1 16777216 18446744073709551615 1\n",
     )
+    .try_for_each(|row| members(rt, row))
 }
 
 pub fn all(rt: &impl Print) -> io::Result<()> {

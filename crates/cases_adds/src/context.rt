@@ -9,22 +9,20 @@ pub fn begun() -> [u8; 1024]
     ensures { result ≡ (begun (replicate 1024 165)).1 }
 {
     let mut buf = [165u8; 1024];
-    ultra_building::begin(&mut buf);
+    let _ = ultra_building::begin(&mut buf);
     buf
 }
 
 // Used length 96.
 pub fn platform() -> [u8; 1024] {
     let mut buf = begun();
-    let record = given::platform();
-    ultra_building::add_platform(&mut buf, record);
+    let _ = ultra_building::add_platform(&mut buf, given::platform());
     buf
 }
 
 // A platform and a kernel; used length 432.
 pub fn kernel() -> [u8; 1024] {
     let mut buf = platform();
-    let record = given::kernel();
-    ultra_building::add_kernel(&mut buf, record);
+    let _ = ultra_building::add_kernel(&mut buf, given::kernel());
     buf
 }

@@ -15,11 +15,9 @@ fn count(buf: &mut [u8; 8704], number: u32) {
 // 1,023 attributes in 8,600 bytes.
 pub fn almost() -> [u8; 8704] {
     let mut buf = [165u8; 8704];
-    ultra_building::begin(&mut buf);
-    let platform = given::platform();
-    ultra_building::add_platform(&mut buf, platform);
-    let kernel = given::kernel();
-    ultra_building::add_kernel(&mut buf, kernel);
+    let _ = ultra_building::begin(&mut buf);
+    let _ = ultra_building::add_platform(&mut buf, given::platform());
+    let _ = ultra_building::add_kernel(&mut buf, given::kernel());
     sevens(&mut buf);
     count(&mut buf, 1023);
     buf

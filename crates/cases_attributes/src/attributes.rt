@@ -1,24 +1,24 @@
 // The attribute at an index.
-use crate::{Kind, cases, context};
+use crate::context;
 use cases_contexts::build;
 use cases_shared::{members, show};
 use cases_text::print;
+use cases_text::table::{Row, rows};
 use lent_buffers::Part;
-use refusals::Answer;
+use refusals::Refusal;
 use std::io;
 use ultra_questions::AttributeAnswer;
 
 // A map's or a command line's part; of other types that there is none, wherever it would lie.
 fn part(rt: &impl Print, kind: u32, part: Part, bytes: &[u8]) -> io::Result<()> {
     if kind == 3 || kind == 5 {
-        print::number(rt, b"  part at ", part.start as u64)?;
-        print::number(rt, b" length ", part.length as u64)?;
+        print!(rt; "  part at {} length {}", part.start, part.length)?;
     } else {
-        print::number(rt, b"  part length ", part.length as u64)?;
+        print!(rt; "  part length {}", part.length)?;
     }
-    print::number(rt, b", bytes handed back ", bytes.len() as u64)?;
+    print!(rt; ", bytes handed back {}", bytes.len())?;
     if kind == 3 {
-        print::bytes(rt, bytes)?;
+        print::numbers(rt, bytes)?;
     }
     if kind == 5 {
         print::words(rt, b" \"")?;
@@ -29,12 +29,10 @@ fn part(rt: &impl Print, kind: u32, part: Part, bytes: &[u8]) -> io::Result<()> 
 }
 
 fn found(rt: &impl Print, answer: AttributeAnswer, bytes: &[u8]) -> io::Result<()> {
-    let header = answer.header;
-    show::header(rt, header)?;
-    let records = answer.records;
-    members::own(rt, header.kind, records)?;
-    let named = answer.part;
-    part(rt, header.kind, named, bytes)
+    let kind = answer.header.kind;
+    show::header(rt, answer.header)?;
+    members::own(rt, kind, answer.records)?;
+    part(rt, kind, answer.part, bytes)
 }
 
 fn ask(rt: &impl Print, label: &[u8], buf: &[u8; 1024], index: u64) -> io::Result<()> {
@@ -43,8 +41,8 @@ fn ask(rt: &impl Print, label: &[u8], buf: &[u8; 1024], index: u64) -> io::Resul
     print::words(rt, label)?;
     show::answer(rt, number)?;
     match number {
-        Answer::Done(_) => found(rt, answer, ultra_questions::attribute_part(buf, index)),
-        Answer::Refused(_) => print::words(rt, b"\n"),
+        Ok(_) => found(rt, answer, ultra_questions::attribute_part(buf, index)),
+        Err(_) => print::words(rt, b"\n"),
     }
 }
 
@@ -62,20 +60,18 @@ fn context_of_every_type() -> [u8; 1024] {
 }
 
 // The index.
-pub fn every(rt: &impl Print, label: &[u8], given: [u64; 6]) -> io::Result<()> {
-    let buf = context_of_every_type();
-    ask(rt, label, &buf, given[0])
+fn every(rt: &impl Print, row: Row<'_>) -> io::Result<()> {
+    let [index] = row.numbers::<1>();
+    ask(rt, row.label, &context_of_every_type(), index)
 }
 
-pub fn every_start(rt: &impl Print, label: &[u8], given: [u64; 6]) -> io::Result<()> {
-    let buf = context_of_every_type();
-    ask_start(rt, label, &buf, given[0])
+fn every_start(rt: &impl Print, row: Row<'_>) -> io::Result<()> {
+    let [index] = row.numbers::<1>();
+    ask_start(rt, row.label, &context_of_every_type(), index)
 }
 
 pub fn every_type(rt: &impl Print) -> io::Result<()> {
-    cases(
-        rt,
-        Kind::Every,
+    rows(
         b"\
         index 0: 0\n\
         index 1: 1\n\
@@ -90,10 +86,9 @@ pub fn every_type(rt: &impl Print) -> io::Result<()> {
         index 4294967296: 4294967296\n\
         index 4294967303: 4294967303\n\
         index 18446744073709551615: 18446744073709551615\n",
-    )?;
-    cases(
-        rt,
-        Kind::EveryStart,
+    )
+    .try_for_each(|row| every(rt, row))?;
+    rows(
         b"\
         start alone of index 0: 0\n\
         start alone of index 4: 4\n\
@@ -101,25 +96,24 @@ pub fn every_type(rt: &impl Print) -> io::Result<()> {
         start alone of index 8: 8\n\
         start alone of index 4294967296: 4294967296\n",
     )
+    .try_for_each(|row| every_start(rt, row))
 }
 
 // The platform's size. It has a kernel right after it, whose type, size, bases and size in memory are not zero. (Only the byte where one
 // of 56 bytes would have its depth is zero: it is the lowest of a base, which is a multiple of 4,096.)
-pub fn platform(rt: &impl Print, label: &[u8], given: [u64; 6]) -> io::Result<()> {
-    let size = given[0];
+fn platform(rt: &impl Print, row: Row<'_>) -> io::Result<()> {
+    let [size] = row.numbers::<1>();
     let mut buf = [165u8; 1024];
     build::head(&mut buf, 2);
     context::platform(&mut buf, size);
     if size < 256 {
         context::kernel(&mut buf, 8 + size, 336);
     }
-    ask(rt, label, &buf, 0)
+    ask(rt, row.label, &buf, 0)
 }
 
 pub fn platforms(rt: &impl Print) -> io::Result<()> {
-    cases(
-        rt,
-        Kind::Platform,
+    rows(
         b"\
         platform of 56 bytes: 56\n\
         platform of 64 bytes: 64\n\
@@ -128,6 +122,7 @@ pub fn platforms(rt: &impl Print) -> io::Result<()> {
         platform of 88 bytes: 88\n\
         platform of 96 bytes: 96\n",
     )
+    .try_for_each(|row| platform(rt, row))
 }
 
 fn platform_and_kernel(count: u64) -> [u8; 1024] {
@@ -144,9 +139,9 @@ fn third_of_type_0() -> [u8; 1024] {
 }
 
 // A third attribute of type 0 is refused, whatever index is asked for.
-pub fn type_zero(rt: &impl Print, label: &[u8], given: [u64; 6]) -> io::Result<()> {
-    let buf = third_of_type_0();
-    ask(rt, label, &buf, given[0])
+fn type_zero(rt: &impl Print, row: Row<'_>) -> io::Result<()> {
+    let [index] = row.numbers::<1>();
+    ask(rt, row.label, &third_of_type_0(), index)
 }
 
 fn start_of_type_zero(rt: &impl Print) -> io::Result<()> {
@@ -155,31 +150,29 @@ fn start_of_type_zero(rt: &impl Print) -> io::Result<()> {
 }
 
 // The count and the index.
-pub fn count(rt: &impl Print, label: &[u8], given: [u64; 6]) -> io::Result<()> {
-    let buf = platform_and_kernel(given[0]);
-    ask(rt, label, &buf, given[1])
+fn count(rt: &impl Print, row: Row<'_>) -> io::Result<()> {
+    let [count, index] = row.numbers::<2>();
+    ask(rt, row.label, &platform_and_kernel(count), index)
 }
 
 pub fn refused(rt: &impl Print) -> io::Result<()> {
-    cases(
-        rt,
-        Kind::TypeZero,
+    rows(
         b"\
         third of type 0, index 0: 0\n\
         third of type 0, index 2: 2\n\
         third of type 0, index 3, the count: 3\n\
         third of type 0, index 2^64 - 1: 18446744073709551615\n",
-    )?;
+    )
+    .try_for_each(|row| type_zero(rt, row))?;
     start_of_type_zero(rt)?;
-    cases(
-        rt,
-        Kind::Count,
+    rows(
         b"\
         count 1, index 0: 1 0\n\
         count 1, index 1: 1 1\n\
         count 0, index 0: 0 0\n\
         count 1025, index 1024: 1025 1024\n\
         count 1025, index 1025: 1025 1025\n",
-    )?;
+    )
+    .try_for_each(|row| count(rt, row))?;
     ask(rt, b"zeros, index 0", &[0u8; 1024], 0)
 }

@@ -1,58 +1,48 @@
 // What was read is added again, to a second buffer.
 use cases_shared::show;
 use cases_text::print;
-use refusals::Answer;
+use refusals::Refusal;
 use std::io;
 use ultra_format::Records;
 
 fn records(from: &[u8; 1024], index: u64) -> Records {
-    let answer = ultra_questions::attribute(from, index);
-    let records = answer.records;
-    records
+    ultra_questions::attribute(from, index).records
 }
 
-fn platform(from: &[u8; 1024], to: &mut [u8]) -> Answer {
-    let records = records(from, 0);
-    let record = records.platform;
-    ultra_building::add_platform(to, record)
+fn platform(from: &[u8; 1024], to: &mut [u8]) -> Result<u32, Refusal> {
+    ultra_building::add_platform(to, records(from, 0).platform)
 }
 
-fn kernel(from: &[u8; 1024], to: &mut [u8]) -> Answer {
-    let records = records(from, 1);
-    let record = records.kernel;
-    ultra_building::add_kernel(to, record)
+fn kernel(from: &[u8; 1024], to: &mut [u8]) -> Result<u32, Refusal> {
+    ultra_building::add_kernel(to, records(from, 1).kernel)
 }
 
-fn framebuffer(from: &[u8; 1024], to: &mut [u8]) -> Answer {
-    let records = records(from, 2);
-    let record = records.framebuffer;
-    ultra_building::add_framebuffer(to, record)
+fn framebuffer(from: &[u8; 1024], to: &mut [u8]) -> Result<u32, Refusal> {
+    ultra_building::add_framebuffer(to, records(from, 2).framebuffer)
 }
 
-fn module(from: &[u8; 1024], index: u64, to: &mut [u8]) -> Answer {
-    let records = records(from, index);
-    let record = records.module;
-    ultra_building::add_module(to, record)
+fn module(from: &[u8; 1024], index: u64, to: &mut [u8]) -> Result<u32, Refusal> {
+    ultra_building::add_module(to, records(from, index).module)
 }
 
-fn map(from: &[u8; 1024], to: &mut [u8]) -> Answer {
+fn map(from: &[u8; 1024], to: &mut [u8]) -> Result<u32, Refusal> {
     let mut numbers = [7u64; 6];
-    ultra_questions::copy_map(from, &mut numbers);
+    let _ = ultra_questions::copy_map(from, &mut numbers);
     ultra_building::add_map(to, &numbers)
 }
 
 fn records_of(from: &[u8; 1024], to: &mut [u8; 1024]) {
-    platform(from, to);
-    kernel(from, to);
-    framebuffer(from, to);
-    module(from, 3, to);
-    module(from, 4, to);
+    let _ = platform(from, to);
+    let _ = kernel(from, to);
+    let _ = framebuffer(from, to);
+    let _ = module(from, 3, to);
+    let _ = module(from, 4, to);
 }
 
-fn all_of(from: &[u8; 1024], to: &mut [u8; 1024]) -> Answer {
-    ultra_building::begin(to);
+fn all_of(from: &[u8; 1024], to: &mut [u8; 1024]) -> Result<u32, Refusal> {
+    let _ = ultra_building::begin(to);
     records_of(from, to);
-    ultra_building::add_command_line(to, ultra_questions::command_line(from, b""));
+    let _ = ultra_building::add_command_line(to, ultra_questions::command_line(from, b""));
     map(from, to)
 }
 
@@ -63,14 +53,10 @@ fn compare(
     second: &[u8; 1024],
     blank: &[u8; 1024],
 ) -> io::Result<()> {
-    print::form(
-        rt,
-        b"bytes of the two contexts that differ: #\nbytes after the second that differ from 90: #\n",
-        &[
-            print::differences_in(first, second, 0, 736) as u64,
-            print::differences_in(second, blank, 736, 1024) as u64,
-        ],
-    )
+    let differ = print::differences_in(first, second, 0, 736);
+    println!(rt; "bytes of the two contexts that differ: {differ}")?;
+    let after = print::differences_in(second, blank, 736, 1024);
+    println!(rt; "bytes after the second that differ from 90: {after}")
 }
 
 // The context of every type, once more in a buffer of 90s.

@@ -1,14 +1,19 @@
 // Beginning, in buffers of 165s.
 use cases_shared::show;
 use cases_text::print;
-use refusals::Answer;
+use refusals::Refusal;
 use std::io;
 
-fn begun(rt: &impl Print, label: &[u8], answer: Answer, bytes: &[u8]) -> io::Result<()> {
+fn begun(
+    rt: &impl Print,
+    label: &[u8],
+    answer: Result<u32, Refusal>,
+    bytes: &[u8],
+) -> io::Result<()> {
     print::words(rt, label)?;
     show::answer(rt, answer)?;
     print::words(rt, b", bytes")?;
-    print::bytes(rt, bytes)?;
+    print::numbers(rt, bytes)?;
     print::words(rt, b"\n")
 }
 

@@ -1,16 +1,15 @@
 // A context of every type, built in a buffer of 165s and read back.
 use cases_shared::{given, members, show};
 use cases_text::print;
-use refusals::Answer;
+use refusals::Refusal;
 use std::io;
 use ultra_format::ModuleRecord;
 use ultra_questions::AttributeAnswer;
 
 fn second_module() -> ModuleRecord {
-    let name = given::module_name(b"symbols\0");
     ModuleRecord {
         kind: 2,
-        name,
+        name: given::field(b"symbols\0"),
         address: 33554432,
         size: 65537,
     }
@@ -18,38 +17,33 @@ fn second_module() -> ModuleRecord {
 
 fn front(rt: &impl Print, buf: &mut [u8; 1024]) -> io::Result<()> {
     show::call(rt, b"every type, begin", ultra_building::begin(buf))?;
-    let platform = given::platform();
     show::call(
         rt,
         b"every type, platform",
-        ultra_building::add_platform(buf, platform),
+        ultra_building::add_platform(buf, given::platform()),
     )?;
-    let kernel = given::kernel();
     show::call(
         rt,
         b"every type, kernel",
-        ultra_building::add_kernel(buf, kernel),
+        ultra_building::add_kernel(buf, given::kernel()),
     )?;
-    let framebuffer = given::framebuffer();
     show::call(
         rt,
         b"every type, framebuffer",
-        ultra_building::add_framebuffer(buf, framebuffer),
+        ultra_building::add_framebuffer(buf, given::framebuffer()),
     )
 }
 
 fn modules(rt: &impl Print, buf: &mut [u8; 1024]) -> io::Result<()> {
-    let first = given::module();
     show::call(
         rt,
         b"every type, module",
-        ultra_building::add_module(buf, first),
+        ultra_building::add_module(buf, given::module()),
     )?;
-    let second = second_module();
     show::call(
         rt,
         b"every type, second module",
-        ultra_building::add_module(buf, second),
+        ultra_building::add_module(buf, second_module()),
     )
 }
 
@@ -70,39 +64,28 @@ fn line_and_map(rt: &impl Print, buf: &mut [u8; 1024]) -> io::Result<()> {
 }
 
 fn found(rt: &impl Print, answer: AttributeAnswer) -> io::Result<()> {
-    let header = answer.header;
-    show::header(rt, header)?;
-    let records = answer.records;
-    members::own(rt, header.kind, records)
+    show::header(rt, answer.header)?;
+    members::own(rt, answer.header.kind, answer.records)
 }
 
 fn ask(rt: &impl Print, buf: &[u8; 1024], index: u64) -> io::Result<()> {
     let answer = ultra_questions::attribute(buf, index);
     let number = answer.answer;
-    print::number(rt, b"index ", index)?;
+    print!(rt; "index {index}")?;
     show::answer(rt, number)?;
     match number {
-        Answer::Done(_) => found(rt, answer),
-        Answer::Refused(_) => print::words(rt, b"\n"),
+        Ok(_) => found(rt, answer),
+        Err(_) => print::words(rt, b"\n"),
     }
 }
 
 fn attributes(rt: &impl Print, buf: &[u8; 1024]) -> io::Result<()> {
-    ask(rt, buf, 0)?;
-    ask(rt, buf, 1)?;
-    ask(rt, buf, 2)?;
-    ask(rt, buf, 3)?;
-    ask(rt, buf, 4)?;
-    ask(rt, buf, 5)?;
-    ask(rt, buf, 6)?;
-    ask(rt, buf, 7)
+    (0..8).try_for_each(|index| ask(rt, buf, index))
 }
 
 fn line(rt: &impl Print, buf: &[u8; 1024]) -> io::Result<()> {
     let part = ultra_questions::command_line_part(buf);
-    print::number(rt, b"command line at ", part.start as u64)?;
-    print::number(rt, b" length ", part.length as u64)?;
-    print::words(rt, b" \"")?;
+    print!(rt; "command line at {} length {} \"", part.start, part.length)?;
     print::words(rt, ultra_questions::command_line(buf, b""))?;
     print::words(rt, b"\"\n")
 }
@@ -116,36 +99,21 @@ fn map(rt: &impl Print, buf: &[u8; 1024]) -> io::Result<()> {
     print::words(rt, b"\n")
 }
 
-fn silent(
-    rt: &impl Print,
-    label: &[u8],
-    buf: &[u8],
-    start: usize,
-    length: usize,
-) -> io::Result<()> {
+fn silent(rt: &impl Print, label: &[u8], bytes: &[u8]) -> io::Result<()> {
     print::words(rt, label)?;
-    if start < 1000 {
-        if length < 8 {
-            if 1024 <= buf.len() {
-                print::bytes(rt, &buf[start..start + length])?;
-            }
-        }
-    }
+    print::numbers(rt, bytes)?;
     print::words(rt, b"\n")
 }
 
 fn silent_bytes(rt: &impl Print, buf: &[u8; 1024]) -> io::Result<()> {
-    silent(rt, b"silent bytes of the platform", buf, 73, 7)?;
-    silent(rt, b"silent bytes of the module", buf, 472, 4)?;
-    silent(rt, b"silent bytes of the second module", buf, 568, 4)
+    silent(rt, b"silent bytes of the platform", &buf[73..80])?;
+    silent(rt, b"silent bytes of the module", &buf[472..476])?;
+    silent(rt, b"silent bytes of the second module", &buf[568..572])
 }
 
 fn after(rt: &impl Print, buf: &[u8; 1024], blank: &[u8; 1024]) -> io::Result<()> {
-    print::form(
-        rt,
-        b"bytes after the context that differ from 165: #\n",
-        &[print::differences_in(buf, blank, 736, 1024) as u64],
-    )
+    let changed = print::differences_in(buf, blank, 736, 1024);
+    println!(rt; "bytes after the context that differ from 165: {changed}")
 }
 
 fn read_back(rt: &impl Print, space: &[u8; 1024]) -> io::Result<()> {

@@ -2,25 +2,23 @@
 use cases_shared::{given, show};
 use cases_text::print;
 use std::io;
-use ultra_format::{KernelRecord, OptionalU8, OptionalU64, PlatformRecord};
+use ultra_format::{KernelRecord, PlatformRecord};
 
 fn platform() -> PlatformRecord {
-    let name = given::name(b"frost\0\0\0");
     PlatformRecord {
         kind: 2,
         loader_major: 1,
         loader_minor: 4,
-        name,
+        name: given::field(b"frost\0\0\0"),
         rsdp: 917504,
-        higher_half_base: OptionalU64::Present(18446603336221196288),
-        depth: OptionalU8::Present(4),
-        dtb: OptionalU64::Present(0),
-        smbios: OptionalU64::Present(0),
+        higher_half_base: Some(18446603336221196288),
+        depth: Some(4),
+        dtb: Some(0),
+        smbios: Some(0),
     }
 }
 
 fn kernel() -> KernelRecord {
-    let path = given::path(b"/boot/k\0");
     KernelRecord {
         physical_base: 2097152,
         virtual_base: 18446744071564165120,
@@ -30,17 +28,16 @@ fn kernel() -> KernelRecord {
         partition_guid: [0u8; 16],
         disk_index: 0,
         partition_index: 1,
-        path,
+        path: given::field(b"/boot/k\0"),
     }
 }
 
 fn begin_and_platform(rt: &impl Print, buf: &mut [u8; 512]) -> io::Result<()> {
     show::call(rt, b"listing, begin", ultra_building::begin(buf))?;
-    let record = platform();
     show::call(
         rt,
         b"listing, platform",
-        ultra_building::add_platform(buf, record),
+        ultra_building::add_platform(buf, platform()),
     )?;
     show::reading(
         rt,
@@ -50,11 +47,10 @@ fn begin_and_platform(rt: &impl Print, buf: &mut [u8; 512]) -> io::Result<()> {
 }
 
 fn kernel_map_and_line(rt: &impl Print, buf: &mut [u8; 512]) -> io::Result<()> {
-    let record = kernel();
     show::call(
         rt,
         b"listing, kernel",
-        ultra_building::add_kernel(buf, record),
+        ultra_building::add_kernel(buf, kernel()),
     )?;
     show::call(
         rt,
@@ -76,19 +72,13 @@ fn read(rt: &impl Print, buf: &[u8; 512]) -> io::Result<()> {
 }
 
 fn differences(rt: &impl Print, left: &[u8; 512], right: &[u8; 512]) -> io::Result<()> {
-    print::form(
-        rt,
-        b", bytes that differ #\n",
-        &[print::differences_in(left, right, 0, 512) as u64],
-    )
+    let differ = print::differences(left, right);
+    println!(rt; ", bytes that differ {differ}")
 }
 
-fn head(rt: &impl Print, buf: &[u8]) -> io::Result<()> {
+fn head(rt: &impl Print, buf: &[u8; 512]) -> io::Result<()> {
     print::words(rt, b", head")?;
-    if 8 <= buf.len() {
-        print::bytes(rt, &buf[0..8])?;
-    }
-    Ok(())
+    print::numbers(rt, &buf[..8])
 }
 
 // A context is emptied by beginning it again; what was after its head stays.
@@ -103,11 +93,10 @@ fn begin_again(rt: &impl Print, built: [u8; 512]) -> io::Result<()> {
         b"listing, begin again, read",
         ultra_reading::read(&space),
     )?;
-    let record = platform();
     show::call(
         rt,
         b"listing, begin again, platform",
-        ultra_building::add_platform(&mut space, record),
+        ultra_building::add_platform(&mut space, platform()),
     )
 }
 

@@ -22,18 +22,10 @@ pub fn put(buf: &mut [u8; 1024], at: u64, width: u64, number: u64) {
 }
 
 // Each row is given where, of how many bytes, and which number.
-fn put_row(buf: &mut [u8; 1024], row: &[u8]) {
-    let values = table::numbers(row);
-    let numbers = values.numbers;
-    put(buf, numbers[0], numbers[1], numbers[2]);
-}
-
 pub fn put_rows(buf: &mut [u8; 1024], table: &[u8]) {
-    let mut at = 0;
-    while at < table.len() {
-        let end = table::end(table, at);
-        put_row(buf, &table[at..end]);
-        at = end;
+    for row in table::rows(table) {
+        let [at, width, number] = row.numbers::<3>();
+        put(buf, at, width, number);
     }
 }
 

@@ -10,27 +10,14 @@ fn put(buf: &mut [u8], at: usize, number: u64) {
     }
 }
 
-// A place past all buffers stays where it is.
 fn after(at: usize, size: u64) -> usize {
-    if 1000000 < at {
-        return at;
-    }
-    if 1000000 < size {
-        return at;
-    }
-    at + size as usize
-}
-
-fn letter(buf: &mut [u8], at: usize) {
-    if at < buf.len() {
-        buf[at] = b'a';
-    }
+    at.saturating_add(size as usize)
 }
 
 // `n` bytes of the letter a.
 fn letters(buf: &mut [u8], at: usize, n: u64) {
-    for i in 0..n {
-        letter(buf, after(at, i));
+    for byte in buf.iter_mut().skip(at).take(n as usize) {
+        *byte = b'a';
     }
 }
 
@@ -91,7 +78,7 @@ pub fn module(buf: &mut [u8], at: usize, n: u64) -> usize {
 // `n` modules with names of 63 letters.
 pub fn modules(buf: &mut [u8], first: usize, n: u64) -> usize {
     let mut at = first;
-    for i in 0..n {
+    for _ in 0..n {
         at = module(buf, at, 63);
     }
     at

@@ -1,35 +1,20 @@
 // What exporting answers, and the payload as R-2's reader reads it.
 use cases_text::print;
 use handover_format::Record;
-use refusals::Answer;
+use refusals::Refusal;
 use std::io;
 
 // What a byte of the output is before.
 const BEFORE: u8 = 165;
 
-// 1 for a byte that is not as before.
-fn changed(byte: u8) -> u64 {
-    if byte == BEFORE {
-        return 0;
-    }
-    1
-}
-
 // How many bytes are not as before.
 fn changes(out: &[u8]) -> u64 {
-    let mut n: u64 = 0;
-    for byte in out {
-        n = n.wrapping_add(changed(*byte));
-    }
-    n
+    out.iter().filter(|byte| **byte != BEFORE).count() as u64
 }
 
 // The bytes from `start` on.
 fn after(out: &[u8], start: usize) -> &[u8] {
-    if out.len() < start {
-        return &out[0..0];
-    }
-    &out[start..]
+    out.get(start..).unwrap_or(b"")
 }
 
 fn tag(rt: &impl Print, tag: u32) -> io::Result<()> {
@@ -44,23 +29,17 @@ fn tag(rt: &impl Print, tag: u32) -> io::Result<()> {
         handover_format::HANDOVER_CMDLINE => print::words(rt, b"CMDLINE"),
         handover_format::HANDOVER_RESERVED => print::words(rt, b"RESERVED"),
         handover_format::HANDOVER_END => print::words(rt, b"END"),
-        _ => print::number(rt, b"tag ", tag as u64),
+        _ => print!(rt; "tag {tag}"),
     }
 }
 
 fn words(rt: &impl Print, given: Record) -> io::Result<()> {
     print::words(rt, b"  ")?;
     tag(rt, given.tag)?;
-    print::form(
-        rt,
-        b" #, # bytes; flags #, words # #",
-        &[
-            given.start,
-            given.size,
-            given.flags as u64,
-            given.name as u64,
-            given.meta as u64,
-        ],
+    print!(rt; " {}, {} bytes; ", given.start, given.size)?;
+    print!(rt;
+        "flags {}, words {} {}",
+        given.flags, given.name, given.meta
     )
 }
 
@@ -68,7 +47,7 @@ fn words(rt: &impl Print, given: Record) -> io::Result<()> {
 fn record(rt: &impl Print, payload: &[u8], index: u64) -> io::Result<bool> {
     let asked = handover_questions::record_at(payload, index);
     let answer = asked.answer;
-    let Answer::Done(_) = answer else {
+    let Ok(_) = answer else {
         return Ok(false);
     };
     words(rt, asked.words)?;
@@ -92,12 +71,8 @@ fn records(rt: &impl Print, payload: &[u8], most: u64) -> io::Result<()> {
 
 fn read_back(rt: &impl Print, payload: &[u8]) -> io::Result<()> {
     match handover_reading::read(payload) {
-        Answer::Done(size) => print::number(rt, b", read ", size as u64),
-        Answer::Refused(r) => print::form(
-            rt,
-            b", read refused # at #",
-            &[r.number as u64, r.offset as u64],
-        ),
+        Ok(size) => print!(rt; ", read {size}"),
+        Err(r) => print!(rt; ", read refused {} at {}", r.number, r.offset),
     }?;
     print::words(rt, b", agent \"")?;
     print::words(rt, handover_questions::agent_name(payload))?;
@@ -107,16 +82,16 @@ fn read_back(rt: &impl Print, payload: &[u8]) -> io::Result<()> {
 fn show(rt: &impl Print, context: &[u8], load: u64, out: &mut [u8], most: u64) -> io::Result<()> {
     let answer = handover_export::export(context, load, out);
     match answer {
-        Answer::Refused(r) => print::form(
-            rt,
-            b": refused # at #, # bytes changed\n",
-            &[r.number as u64, r.offset as u64, changes(out)],
+        Err(r) => println!(rt;
+            ": refused {} at {}, {} bytes changed",
+            r.number,
+            r.offset,
+            changes(out)
         ),
-        Answer::Done(size) => {
-            print::form(
-                rt,
-                b": # bytes, # changed after them",
-                &[size as u64, changes(after(out, size as usize))],
+        Ok(size) => {
+            print!(rt;
+                ": {size} bytes, {} changed after them",
+                changes(after(out, size as usize))
             )?;
             read_back(rt, out)?;
             records(rt, out, most)
@@ -133,10 +108,10 @@ fn lend(
     length: usize,
     most: u64,
 ) -> io::Result<()> {
-    if length <= space.len() {
-        show(rt, context, load, &mut space[0..length], most)?;
+    match space.get_mut(..length) {
+        Some(out) => show(rt, context, load, out, most),
+        None => Ok(()),
     }
-    Ok(())
 }
 
 // The context exported for `load` into an output of `length` bytes, and up to `most` records of the payload.

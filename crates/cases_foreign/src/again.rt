@@ -2,19 +2,17 @@
 use cases_contexts::build;
 use cases_shared::show;
 use cases_text::print;
-use refusals::Answer;
+use refusals::Refusal;
 use std::io;
 
-fn add(from: &[u8; 1024], to: &mut [u8]) -> Answer {
+fn add(from: &[u8; 1024], to: &mut [u8]) -> Result<u32, Refusal> {
     let answer = ultra_questions::attribute(from, 0);
-    let records = answer.records;
-    let record = records.platform;
-    ultra_building::add_platform(to, record)
+    ultra_building::add_platform(to, answer.records.platform)
 }
 
 fn platform_of(rt: &impl Print, label: &[u8], from: &[u8; 1024]) -> io::Result<()> {
     let mut to = [90u8; 112];
-    ultra_building::begin(&mut to);
+    let _ = ultra_building::begin(&mut to);
     print::words(rt, label)?;
     show::answer(rt, add(from, &mut to))?;
     print::words(rt, b", bytes")?;

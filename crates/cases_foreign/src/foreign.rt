@@ -13,12 +13,9 @@ fn changed(
     start: usize,
     end: usize,
 ) -> io::Result<()> {
-    print::number(
-        rt,
-        label,
-        print::differences_in(before, after, start, end) as u64,
-    )?;
-    print::words(rt, b"\n")
+    let changed = print::differences_in(before, after, start, end);
+    print::words(rt, label)?;
+    println!(rt; "{changed}")
 }
 
 // A platform without late members, alone.
@@ -32,9 +29,8 @@ fn short_platform() -> [u8; 1024] {
 fn after_a_short_platform(rt: &impl Print) -> io::Result<()> {
     let before = short_platform();
     let mut after = before;
-    let record = given::kernel();
     print::words(rt, b"kernel after a platform of 56 bytes")?;
-    show::answer(rt, ultra_building::add_kernel(&mut after, record))?;
+    show::answer(rt, ultra_building::add_kernel(&mut after, given::kernel()))?;
     changed(
         rt,
         b"\n  bytes of the platform that changed: ",
@@ -84,20 +80,16 @@ fn compare(rt: &impl Print, before: &[u8; 1024], after: &[u8; 1024]) -> io::Resu
     )
 }
 
-fn head(rt: &impl Print, buf: &[u8]) -> io::Result<()> {
+fn head(rt: &impl Print, buf: &[u8; 1024]) -> io::Result<()> {
     print::words(rt, b"\n  head")?;
-    if 8 <= buf.len() {
-        print::bytes(rt, &buf[0..8])?;
-    }
-    Ok(())
+    print::numbers(rt, &buf[..8])
 }
 
 fn kept(rt: &impl Print) -> io::Result<()> {
     let before = context();
     let mut after = before;
-    let record = given::module();
     print::words(rt, b"module to a foreign context")?;
-    show::answer(rt, ultra_building::add_module(&mut after, record))?;
+    show::answer(rt, ultra_building::add_module(&mut after, given::module()))?;
     head(rt, &after)?;
     compare(rt, &before, &after)?;
     show::reading(

@@ -1,24 +1,8 @@
 // Adds to contexts of 1,023 and 1,024 attributes.
-use cases_adds::{full, line};
+use cases_adds::{changed, full, line};
 use cases_shared::{given, show};
-use cases_text::print;
 use std::io;
-use ultra_format::{FramebufferRecord, PlatformRecord};
-
-fn changed(before: &[u8; 8704], after: &[u8; 8704]) -> usize {
-    print::differences(before, after)
-}
-
-fn platform(
-    rt: &impl Print,
-    label: &[u8],
-    before: [u8; 8704],
-    record: PlatformRecord,
-) -> io::Result<()> {
-    let mut after = before;
-    let answer = ultra_building::add_platform(&mut after, record);
-    line(rt, label, answer, changed(&before, &after))
-}
+use ultra_format::FramebufferRecord;
 
 // Answers the buffer.
 fn framebuffer(
@@ -43,8 +27,9 @@ fn to_1024(rt: &impl Print, buf: [u8; 8704]) -> io::Result<()> {
         buf,
         record,
     )?;
-    let first = given::platform();
-    platform(rt, b"platform to 1024 attributes", buf, first)
+    cases_adds::add(rt, b"platform to 1024 attributes", buf, |buf| {
+        ultra_building::add_platform(buf, given::platform())
+    })
 }
 
 fn to_1023(rt: &impl Print, buf: [u8; 8704]) -> io::Result<()> {

@@ -8,21 +8,23 @@ use std::io;
 fn framebuffer(rt: &impl Print, label: &[u8], at: usize, byte: u8) -> io::Result<()> {
     let mut buf = context::kernel();
     build::put_byte(&mut buf, at, byte);
-    let record = given::framebuffer();
-    cases_adds::framebuffer(rt, label, buf, record)
+    cases_adds::add(rt, label, buf, |buf| {
+        ultra_building::add_framebuffer(buf, given::framebuffer())
+    })
 }
 
 fn counts(rt: &impl Print) -> io::Result<()> {
     let mut buf = context::kernel();
     build::put(&mut buf, 4, 4, 1025);
-    let record = given::framebuffer();
-    cases_adds::framebuffer(rt, b"framebuffer to a count of 1025", buf, record)?;
+    cases_adds::add(rt, b"framebuffer to a count of 1025", buf, |buf| {
+        ultra_building::add_framebuffer(buf, given::framebuffer())
+    })?;
     build::put_byte(&mut buf, 0, 0);
-    cases_adds::framebuffer(
+    cases_adds::add(
         rt,
         b"framebuffer to major 0 and a count of 1025",
         buf,
-        record,
+        |buf| { ultra_building::add_framebuffer(buf, given::framebuffer()) },
     )
 }
 
@@ -42,17 +44,19 @@ fn attributes(rt: &impl Print) -> io::Result<()> {
 fn few(rt: &impl Print) -> io::Result<()> {
     let mut buf = context::kernel();
     build::put_byte(&mut buf, 4, 0);
-    let platform = given::platform();
-    cases_adds::platform(rt, b"platform to a count of 0", buf, platform)?;
+    cases_adds::add(rt, b"platform to a count of 0", buf, |buf| {
+        ultra_building::add_platform(buf, given::platform())
+    })?;
     build::put_byte(&mut buf, 4, 1);
-    let kernel = given::kernel();
-    cases_adds::kernel(rt, b"kernel to a count of 1", buf, kernel)?;
+    cases_adds::add(rt, b"kernel to a count of 1", buf, |buf| {
+        ultra_building::add_kernel(buf, given::kernel())
+    })?;
     build::put_byte(&mut buf, 8, 2);
-    cases_adds::kernel(
+    cases_adds::add(
         rt,
         b"kernel to a count of 1, the first a kernel",
         buf,
-        kernel,
+        |buf| { ultra_building::add_kernel(buf, given::kernel()) },
     )
 }
 
@@ -61,7 +65,9 @@ fn before_the_record(rt: &impl Print) -> io::Result<()> {
     build::put_byte(&mut buf, 0, 0);
     let mut record = given::platform();
     record.kind = 0;
-    cases_adds::platform(rt, b"platform of type 0 to major 0", buf, record)
+    cases_adds::add(rt, b"platform of type 0 to major 0", buf, |buf| {
+        ultra_building::add_platform(buf, record)
+    })
 }
 
 pub fn all(rt: &impl Print) -> io::Result<()> {

@@ -12,12 +12,12 @@ fn ends(rt: &impl Print, bytes: &[u8]) -> io::Result<()> {
     print::words(rt, b", bytes")?;
     let n = bytes.len();
     if n < 12 {
-        print::bytes(rt, bytes)?;
+        print::numbers(rt, bytes)?;
         return Ok(());
     }
-    print::bytes(rt, &bytes[0..12])?;
+    print::numbers(rt, &bytes[0..12])?;
     print::words(rt, b" ..")?;
-    print::bytes(rt, &bytes[n - 1..])
+    print::numbers(rt, &bytes[n - 1..])
 }
 
 // What `list` answers, and what the output has afterwards.
@@ -30,8 +30,7 @@ fn list(rt: &impl Print, label: &[u8], buf: &[u8], out: &mut [u8]) -> io::Result
 
 fn length(rt: &impl Print, label: &[u8], buf: &[u8]) -> io::Result<()> {
     print::words(rt, label)?;
-    print::number(rt, b": length ", ultra_listing::listing_length(buf) as u64)?;
-    print::words(rt, b"\n")
+    println!(rt; ": length {}", ultra_listing::listing_length(buf))
 }
 
 // "H alone: HEADER at 8": `refused=5,8` and a newline are 12 bytes.

@@ -4,9 +4,8 @@ ghost use Rattle.std.specs.Prelude.{◌+◌, ◌*◌, ◌≤◌, length};
 
 use cases_contexts::build;
 use cases_text::print;
-use refusals::Answer;
+use refusals::Refusal;
 use std::io;
-use ultra_reading::Reading;
 
 // A callee that names the array's length owes no proof of it.
 fn put_front(buf: &mut [u8], front: &[u8; 1024]) {
@@ -28,36 +27,33 @@ fn front(buf: &mut [u8], count: u64, size: u64) {
 fn body(buf: &mut [u8], numbers: &[u64])
     requires { 440 + 8 * length numbers.now ≤ length buf.old }
 {
-    for i in 0..numbers.len() {
-        words::store_u64(buf, 440 + 8 * i, numbers[i]);
+    for (i, number) in numbers.iter().enumerate() {
+        words::store_u64(buf, 440 + 8 * i, *number);
     }
 }
 
-fn given(numbers: &[u64]) -> Answer {
+fn given(numbers: &[u64]) -> Result<u32, Refusal> {
     let mut buf = [0u8; 65536];
     front(&mut buf, 2, 0);
     ultra_building::add_map(&mut buf, numbers)
 }
 
 // The form in which C gives a map.
-fn bytes(entries: &[u8]) -> Answer {
+fn bytes(entries: &[u8]) -> Result<u32, Refusal> {
     let mut buf = [0u8; 65536];
     front(&mut buf, 2, 0);
     ultra_building::members::add_map(&mut buf, entries)
 }
 
-fn read(buf: &[u8]) -> Answer {
-    match ultra_reading::read(buf) {
-        Reading::Accepted(_, used) => Answer::Done(used),
-        Reading::Refused(refusal) => Answer::Refused(refusal),
-    }
+fn read(buf: &[u8]) -> Result<u32, Refusal> {
+    Ok(ultra_reading::read(buf)?.used)
 }
 
-fn show(rt: &impl Print, before: &[u8], answer: Answer) -> io::Result<()> {
+fn show(rt: &impl Print, before: &[u8], answer: Result<u32, Refusal>) -> io::Result<()> {
     print::words(rt, before)?;
     match answer {
-        Answer::Done(used) => print::number(rt, b"done ", used as u64),
-        Answer::Refused(r) => print::form(rt, b"# at #", &[r.number as u64, r.offset as u64]),
+        Ok(used) => print!(rt; "done {used}"),
+        Err(r) => print!(rt; "{} at {}", r.number, r.offset),
     }
 }
 

@@ -6,38 +6,25 @@
 mod forms;
 mod given;
 
-use cases_text::table;
+use cases_text::table::{Row, rows};
 use std::io;
 
-// The first byte of a row says which kind it is of, and its label is from the third on.
-fn case(rt: &impl Print, row: &[u8]) -> io::Result<()> {
-    if row.len() < 2 {
+fn case(rt: &impl Print, row: Row<'_>) -> io::Result<()> {
+    let Some((kind, row)) = row.kind() else {
         return Ok(());
-    }
-    let kind = row[0];
-    let label = table::label(&row[2..]);
-    let mut values = [0u64; 24];
-    let count = table::put_numbers(row, &mut values);
+    };
+    let mut space = [0; 24];
+    let count = row.put_numbers(&mut space);
     match kind {
-        b'e' => given::entries(rt, label, &values, count),
-        b'b' => given::bytes_more(rt, label, &values, count),
-        b's' => given::sound_but(rt, label, values),
+        b'e' => forms::judge(rt, row.label, &space[..count], 0),
+        b'b' => given::bytes_more(rt, row.label, &space[..count]),
+        b's' => given::sound_but(rt, row),
         _ => Ok(()),
     }
-}
-
-fn cases(rt: &impl Print, table: &[u8]) -> io::Result<()> {
-    let mut at = 0;
-    while at < table.len() {
-        let end = table::end(table, at);
-        case(rt, &table[at..end])?;
-        at = end;
-    }
-    Ok(())
 }
 
 fn main(rt: HostRuntime) -> io::Result<()> {
     let mut input = [0u8; 65536];
     let read = full_reads::read_full(&mut rt.stdin(), &mut input);
-    cases(&rt, &input[..read])
+    rows(&input[..read]).try_for_each(|row| case(&rt, row))
 }

@@ -5,15 +5,14 @@ use cases_shared::given;
 // A platform, a kernel and a module; used length 528.
 pub fn module() -> [u8; 1024] {
     let mut buf = context::kernel();
-    let record = given::module();
-    ultra_building::add_module(&mut buf, record);
+    let _ = ultra_building::add_module(&mut buf, given::module());
     buf
 }
 
 // And a command line; used length 544.
 pub fn line() -> [u8; 1024] {
     let mut buf = module();
-    ultra_building::add_command_line(&mut buf, b"quiet");
+    let _ = ultra_building::add_command_line(&mut buf, b"quiet");
     buf
 }
 

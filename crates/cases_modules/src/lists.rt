@@ -26,8 +26,7 @@ pub fn untyped(index: usize) -> [ModuleRecord; 16] {
 // 14
 pub fn unreadable(index: usize) -> [ModuleRecord; 16] {
     let mut module = given::module();
-    let name = given::module_name(b"init\x80");
-    module.name = name;
+    module.name = given::field(b"init\x80");
     with(index, module)
 }
 
@@ -42,8 +41,7 @@ pub fn past_the_top(index: usize) -> [ModuleRecord; 16] {
 // The second to the top, and the third of type 0.
 pub fn unlike() -> [ModuleRecord; 16] {
     let mut modules = untyped(2);
-    let module = at_the_top();
-    modules[1] = module;
+    modules[1] = at_the_top();
     modules
 }
 

@@ -11,12 +11,9 @@ use ultra_format::ModuleRecord;
 use ultra_modules::ModulesAdded;
 
 fn line(rt: &impl Print, label: &[u8], added: ModulesAdded, changed: usize) -> io::Result<()> {
-    let answer = added.answer;
     print::words(rt, label)?;
-    show::answer(rt, answer)?;
-    print::number(rt, b", added ", added.added as u64)?;
-    print::number(rt, b", bytes changed ", changed as u64)?;
-    print::words(rt, b"\n")
+    show::answer(rt, added.answer)?;
+    println!(rt; ", added {}, bytes changed {changed}", added.added)
 }
 
 // In the first `room` bytes of the buffer, which is answered.
@@ -211,7 +208,7 @@ fn among_many(rt: &impl Print, label: &[u8], before: [u8; 8704], count: usize) -
 {
     let mut after = before;
     let added = lent_modules::add_first(&mut after, lists::good(), count);
-    line(rt, label, added, print::differences(&before, &after))
+    line(rt, label, added, cases_adds::changed(&before, &after))
 }
 
 // The count 1,024 differs from 1,023 in two bytes.
@@ -225,10 +222,8 @@ pub fn to_1023_attributes(rt: &impl Print) -> io::Result<()> {
 // "with the same bytes .. as adding them one by one"
 pub fn beside_single_adds(rt: &impl Print) -> io::Result<()> {
     let mut one_by_one = context::kernel();
-    let first = given::module();
-    ultra_building::add_module(&mut one_by_one, first);
-    let second = lists::at_the_top();
-    ultra_building::add_module(&mut one_by_one, second);
+    let _ = ultra_building::add_module(&mut one_by_one, given::module());
+    let _ = ultra_building::add_module(&mut one_by_one, lists::at_the_top());
     let after = try_on(
         rt,
         b"two unlike modules and one of type 0",
@@ -236,10 +231,6 @@ pub fn beside_single_adds(rt: &impl Print) -> io::Result<()> {
         lists::unlike(),
         3,
     )?;
-    print::number(
-        rt,
-        b"  bytes that differ from those of two single adds: ",
-        print::differences(&one_by_one, &after) as u64,
-    )?;
-    print::words(rt, b"\n")
+    let differ = print::differences(&one_by_one, &after);
+    println!(rt; "  bytes that differ from those of two single adds: {differ}")
 }

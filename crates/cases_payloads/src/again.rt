@@ -2,43 +2,31 @@
 use crate::{given, questions, writing};
 use cases_shared::show;
 use lent_buffers::Part;
-use refusals::Answer;
+use refusals::Refusal;
 use std::io;
 
 // The start and the length of a string, as the numbers `k` and after it.
-fn put_part(numbers: [u64; 23], k: usize, part: Part) -> [u64; 23] {
-    let mut after = numbers;
+fn put_part(numbers: &mut [u64; 23], k: usize, part: Part) {
     if k < 18 {
-        after[k] = part.start as u64;
-        after[k + 1] = part.length as u64;
+        numbers[k] = part.start as u64;
+        numbers[k + 1] = part.length as u64;
     }
-    after
-}
-
-// The strings of the record whose numbers start at `k`.
-fn put_record(numbers: [u64; 23], buf: &[u8; 1024], index: u64, k: usize) -> [u64; 23] {
-    let answer = handover_questions::record_at(buf, index);
-    let name = answer.name;
-    let meta = answer.meta;
-    if 18 < k {
-        return numbers;
-    }
-    put_part(put_part(numbers, k, name), k + 2, meta)
 }
 
 // The numbers of a payload of four records by its reading, for a run that is the payload itself.
 fn numbers_of(buf: &[u8; 1024]) -> [u64; 23] {
-    let agent = handover_questions::agent(buf);
-    let name = agent.name;
-    let numbers = put_part(given::numbers(), 0, name);
-    let first = put_record(numbers, buf, 0, 2);
-    let second = put_record(first, buf, 1, 6);
-    let third = put_record(second, buf, 2, 10);
-    put_record(third, buf, 3, 14)
+    let mut numbers = given::numbers();
+    put_part(&mut numbers, 0, handover_questions::agent(buf).name);
+    for index in 0..4 {
+        let record = handover_questions::record_at(buf, index as u64);
+        put_part(&mut numbers, 4 * index + 2, record.name);
+        put_part(&mut numbers, 4 * index + 4, record.meta);
+    }
+    numbers
 }
 
 // Written from its reading.
-fn write(to: &mut [u8; 1024], from: &[u8; 1024]) -> Answer {
+fn write(to: &mut [u8; 1024], from: &[u8; 1024]) -> Result<u32, Refusal> {
     let numbers = numbers_of(from);
     given::write(to, from, numbers)
 }
@@ -52,7 +40,7 @@ fn show_copy(rt: &impl Print, buf: &[u8; 1024]) -> io::Result<()> {
 
 fn compare(
     rt: &impl Print,
-    answer: Answer,
+    answer: Result<u32, Refusal>,
     left: &[u8; 1024],
     right: &[u8; 1024],
 ) -> io::Result<()> {

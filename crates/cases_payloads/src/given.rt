@@ -1,7 +1,7 @@
 // A payload by hand, byte for byte after document 002, and what a row changes of it. What is written is lent from it too: its records, and its
 // bytes as the run.
 use cases_contexts::build;
-use refusals::Answer;
+use refusals::Refusal;
 
 // FREE at 16, FILE at 48, CMDLINE at 80 and END at 112; a table of 28 bytes at 144; 172 bytes, and 165s after them.
 pub fn payload() -> [u8; 1024] {
@@ -52,12 +52,9 @@ fn width(at: u64) -> u64 {
 
 // The pair 0, 0 is one that the row does not have.
 fn put(buf: &mut [u8; 1024], at: u64, number: u64) {
-    if at == 0 {
-        if number == 0 {
-            return;
-        }
+    if at != 0 || number != 0 {
+        build::put(buf, at, width(at), number);
     }
-    build::put(buf, at, width(at), number);
 }
 
 // The payload with up to three other words, each at its place.
@@ -80,50 +77,40 @@ pub fn numbers() -> [u64; 23] {
 }
 
 // The places from 2000 on are those of these numbers.
-fn put_number(before: [u64; 23], at: u64, number: u64) -> [u64; 23] {
-    let mut after = before;
-    if 2000 <= at {
-        if at < 2023 {
-            after[at as usize - 2000] = number;
-        }
+fn put_number(numbers: &mut [u64; 23], at: u64, number: u64) {
+    if 2000 <= at && at < 2023 {
+        numbers[at as usize - 2000] = number;
     }
-    after
 }
 
 pub fn changed_numbers(before: [u64; 23], pairs: [u64; 6]) -> [u64; 23] {
-    let first = put_number(before, pairs[0], pairs[1]);
-    let second = put_number(first, pairs[2], pairs[3]);
-    put_number(second, pairs[4], pairs[5])
+    let mut after = before;
+    put_number(&mut after, pairs[0], pairs[1]);
+    put_number(&mut after, pairs[2], pairs[3]);
+    put_number(&mut after, pairs[4], pairs[5]);
+    after
 }
 
 // So many bytes from `start` on; none where there are fewer.
 pub fn part(bytes: &[u8], start: usize, length: u64) -> &[u8] {
-    let size = length as usize;
-    if bytes.len() < start {
-        return &bytes[0..0];
+    match bytes.get(start..) {
+        Some(rest) => rest.get(..length as usize).unwrap_or(b""),
+        None => b"",
     }
-    if bytes.len() - start < size {
-        return &bytes[0..0];
-    }
-    &bytes[start..start + size]
 }
 
 fn first_numbers(numbers: &[u64], length: u64) -> &[u64] {
-    let size = length as usize;
-    if numbers.len() < size {
-        return &numbers[0..0];
-    }
-    &numbers[0..size]
+    numbers.get(..length as usize).unwrap_or(&[])
 }
 
 // Writes what the numbers lend of the payload.
-pub fn write(to: &mut [u8], from: &[u8], numbers: [u64; 23]) -> Answer {
+pub fn write(to: &mut [u8], from: &[u8], numbers: [u64; 23]) -> Result<u32, Refusal> {
     let records = numbers[18];
     let count = numbers[19];
     let run = numbers[20];
     let room = numbers[21] as usize;
     if to.len() < room {
-        return Answer::Done(0);
+        return Ok(0);
     }
     handover_writing::write(
         &mut to[0..room],

@@ -8,18 +8,15 @@ mod long;
 mod questions;
 mod writing;
 
-use cases_text::table;
+use cases_text::table::{Row, rows};
 use std::io;
 
-// The first byte of a row says which kind it is of, and its label is from the third on.
-fn case(rt: &impl Print, row: &[u8]) -> io::Result<()> {
-    if row.len() < 2 {
+fn case(rt: &impl Print, row: Row<'_>) -> io::Result<()> {
+    let Some((kind, row)) = row.kind() else {
         return Ok(());
-    }
-    let kind = row[0];
-    let label = table::label(&row[2..]);
-    let values = table::numbers(row);
-    let numbers = values.numbers;
+    };
+    let label = row.label;
+    let numbers = row.numbers::<6>();
     match kind {
         b'r' => questions::read(rt, label, numbers),
         b'a' => questions::agent(rt, label, numbers),
@@ -34,18 +31,8 @@ fn case(rt: &impl Print, row: &[u8]) -> io::Result<()> {
     }
 }
 
-fn cases(rt: &impl Print, table: &[u8]) -> io::Result<()> {
-    let mut at = 0;
-    while at < table.len() {
-        let end = table::end(table, at);
-        case(rt, &table[at..end])?;
-        at = end;
-    }
-    Ok(())
-}
-
 fn main(rt: HostRuntime) -> io::Result<()> {
     let mut input = [0u8; 65536];
     let read = full_reads::read_full(&mut rt.stdin(), &mut input);
-    cases(&rt, &input[..read])
+    rows(&input[..read]).try_for_each(|row| case(&rt, row))
 }

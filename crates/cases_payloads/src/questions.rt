@@ -19,11 +19,7 @@ pub fn read(rt: &impl Print, label: &[u8], pairs: [u64; 6]) -> io::Result<()> {
 // Where a string is by its part, and the bytes that were handed back.
 fn string(rt: &impl Print, before: &[u8], part: Part, bytes: &[u8]) -> io::Result<()> {
     print::words(rt, before)?;
-    print::form(
-        rt,
-        b" at # length # \"",
-        &[part.start as u64, part.length as u64],
-    )?;
+    print!(rt; " at {} length {} \"", part.start, part.length)?;
     print::words(rt, bytes)?;
     print::words(rt, b"\"")
 }
@@ -33,24 +29,24 @@ pub fn show_agent(rt: &impl Print, label: &[u8], buf: &[u8]) -> io::Result<()> {
     let number = answer.answer;
     print::words(rt, label)?;
     show::answer(rt, number)?;
-    print::number(rt, b", offset ", answer.offset as u64)?;
-    let name = answer.name;
-    string(rt, b", name", name, handover_questions::agent_name(buf))?;
+    print!(rt; ", offset {}", answer.offset)?;
+    string(
+        rt,
+        b", name",
+        answer.name,
+        handover_questions::agent_name(buf),
+    )?;
     print::words(rt, b"\n")
 }
 
 fn show_words(rt: &impl Print, words: Record) -> io::Result<()> {
-    print::form(
-        rt,
-        b", tag #, flags #, start #, size #, words # #\n",
-        &[
-            words.tag as u64,
-            words.flags as u64,
-            words.start,
-            words.size,
-            words.name as u64,
-            words.meta as u64,
-        ],
+    print!(rt;
+        ", tag {}, flags {}, start {}",
+        words.tag, words.flags, words.start
+    )?;
+    println!(rt;
+        ", size {}, words {} {}",
+        words.size, words.name, words.meta
     )
 }
 
@@ -59,20 +55,17 @@ pub fn show_record(rt: &impl Print, label: &[u8], buf: &[u8], index: u64) -> io:
     let number = answer.answer;
     print::words(rt, label)?;
     show::answer(rt, number)?;
-    let words = answer.words;
-    show_words(rt, words)?;
-    let name = answer.name;
+    show_words(rt, answer.words)?;
     string(
         rt,
         b"  name",
-        name,
+        answer.name,
         handover_questions::record_name(buf, index),
     )?;
-    let meta = answer.meta;
     string(
         rt,
         b", meta",
-        meta,
+        answer.meta,
         handover_questions::record_meta(buf, index),
     )?;
     print::words(rt, b"\n")

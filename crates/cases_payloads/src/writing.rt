@@ -2,26 +2,22 @@
 use crate::given;
 use cases_shared::show;
 use cases_text::print;
-use refusals::Answer;
+use refusals::Refusal;
 use std::io;
 
 // How many bytes of the two differ, after the answer.
 pub fn line(
     rt: &impl Print,
     label: &[u8],
-    answer: Answer,
+    answer: Result<u32, Refusal>,
     form: &[u8],
     left: &[u8],
     right: &[u8],
 ) -> io::Result<()> {
     print::words(rt, label)?;
     show::answer(rt, answer)?;
-    print::number(
-        rt,
-        form,
-        print::differences_in(left, right, 0, left.len()) as u64,
-    )?;
-    print::words(rt, b"\n")
+    print::words(rt, form)?;
+    println!(rt; "{}", print::differences_in(left, right, 0, left.len()))
 }
 
 // As many bytes change as the payload has, or none.
@@ -52,7 +48,12 @@ pub fn same(rt: &impl Print, label: &[u8], pairs: [u64; 6]) -> io::Result<()> {
     )
 }
 
-fn show_bytes(rt: &impl Print, label: &[u8], answer: Answer, buf: &[u8; 1024]) -> io::Result<()> {
+fn show_bytes(
+    rt: &impl Print,
+    label: &[u8],
+    answer: Result<u32, Refusal>,
+    buf: &[u8; 1024],
+) -> io::Result<()> {
     print::words(rt, label)?;
     show::answer(rt, answer)?;
     print::rows(rt, given::part(buf, 0, 176))?;

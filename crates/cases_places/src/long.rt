@@ -5,11 +5,9 @@ use cases_text::print;
 use std::io;
 
 fn context(buf: &mut [u8]) {
-    ultra_building::begin(buf);
-    let platform = given::platform();
-    ultra_building::add_platform(buf, platform);
-    let kernel = given::kernel();
-    ultra_building::add_kernel(buf, kernel);
+    let _ = ultra_building::begin(buf);
+    let _ = ultra_building::add_platform(buf, given::platform());
+    let _ = ultra_building::add_kernel(buf, given::kernel());
 }
 
 // Adds the first `length` bytes of the text, and compares the buffers from byte 65,024 on.
@@ -21,16 +19,16 @@ fn add(
     text: &[u8],
     length: usize,
 ) -> io::Result<()> {
-    if length <= text.len() {
-        let answer = ultra_building::add_command_line(buf, &text[0..length]);
-        line(
-            rt,
-            label,
-            answer,
-            print::differences_in(before, buf, 65024, 66000),
-        )?;
-    }
-    Ok(())
+    let Some(part) = text.get(..length) else {
+        return Ok(());
+    };
+    let answer = ultra_building::add_command_line(buf, part);
+    line(
+        rt,
+        label,
+        answer,
+        print::differences_in(before, buf, 65024, 66000),
+    )
 }
 
 fn command_line(rt: &impl Print, label: &[u8], length: usize, last: u8) -> io::Result<()> {

@@ -7,8 +7,8 @@ mod places;
 
 use adds::add;
 use cases_adds::{changed, context, line};
-use cases_text::table;
-use refusals::Answer;
+use cases_text::table::Row;
+use refusals::Refusal;
 use std::io;
 
 // The first `count` of a platform and a kernel.
@@ -23,7 +23,7 @@ fn front(count: u64) -> [u8; 1024] {
 // Adds nothing for type 0.
 fn add_one(buf: &mut [u8; 1024], kind: u64) {
     if kind != 0 {
-        add(buf, kind, 0);
+        let _ = add(buf, kind, 0);
     }
 }
 
@@ -36,33 +36,22 @@ fn attributes(count: u64, first: u64, second: u64) -> [u8; 1024] {
 }
 
 // Adds to the first `room` bytes.
-fn add_within(buf: &mut [u8], room: u64, kind: u64, variant: u64) -> Answer {
+fn add_within(buf: &mut [u8], room: u64, kind: u64, variant: u64) -> Result<u32, Refusal> {
     let end = room as usize;
     if end <= buf.len() {
         return add(&mut buf[0..end], kind, variant);
     }
-    Answer::Done(0)
+    Ok(0)
 }
 
 // What stands there, as three numbers for `attributes`; the room; and the type and the variant of what is added. All of the buffer is
 // compared.
-fn case(rt: &impl Print, row: &[u8]) -> io::Result<()> {
-    let values = table::numbers(row);
-    let given = values.numbers;
-    let before = attributes(given[0], given[1], given[2]);
+fn case(rt: &impl Print, row: Row<'_>) -> io::Result<()> {
+    let [count, first, second, room, kind, variant] = row.numbers::<6>();
+    let before = attributes(count, first, second);
     let mut after = before;
-    let answer = add_within(&mut after, given[3], given[4], given[5]);
-    line(rt, table::label(row), answer, changed(&before, &after))
-}
-
-fn cases(rt: &impl Print, table: &[u8]) -> io::Result<()> {
-    let mut at = 0;
-    while at < table.len() {
-        let end = table::end(table, at);
-        case(rt, &table[at..end])?;
-        at = end;
-    }
-    Ok(())
+    let answer = add_within(&mut after, room, kind, variant);
+    line(rt, row.label, answer, changed(&before, &after))
 }
 
 fn main(rt: HostRuntime) -> io::Result<()> {

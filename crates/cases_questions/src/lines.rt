@@ -8,10 +8,11 @@ fn line(rt: &impl Print, label: &[u8], buf: &[u8; 1024]) -> io::Result<()> {
     let part = ultra_questions::command_line_part(buf);
     let text = ultra_questions::command_line(buf, b"");
     print::words(rt, label)?;
-    print::form(
-        rt,
-        b": part at # length #, bytes handed back # \"",
-        &[part.start as u64, part.length as u64, text.len() as u64],
+    print!(rt;
+        ": part at {} length {}, bytes handed back {} \"",
+        part.start,
+        part.length,
+        text.len()
     )?;
     print::words(rt, text)?;
     print::words(rt, b"\"\n")
@@ -84,12 +85,13 @@ fn line_or<'a>(
     let text = ultra_questions::command_line(buf, board);
     print::words(rt, label)?;
     print::words(rt, given)?;
-    print::form(
-        rt,
-        b": part at # length #, # bytes handed back",
-        &[part.start as u64, part.length as u64, text.len() as u64],
+    print!(rt;
+        ": part at {} length {}, {} bytes handed back",
+        part.start,
+        part.length,
+        text.len()
     )?;
-    print::bytes(rt, text)?;
+    print::numbers(rt, text)?;
     print::words(rt, b"\n")
 }
 

@@ -1,23 +1,23 @@
 // The map copied out.
-use crate::{Kind, cases};
 use cases_contexts::build;
 use cases_shared::show;
 use cases_text::print;
+use cases_text::table::{Row, rows};
 use std::io;
 
 // Lends the first `length` numbers of the output.
 fn copy_to(rt: &impl Print, buf: &[u8; 1024], out: &mut [u64], length: u64) -> io::Result<()> {
-    let end = length as usize;
-    if end <= out.len() {
-        show::answer(rt, ultra_questions::copy_map(buf, &mut out[0..end]))?;
+    match out.get_mut(..length as usize) {
+        Some(lent) => show::answer(rt, ultra_questions::copy_map(buf, lent)),
+        None => Ok(()),
     }
-    Ok(())
 }
 
-// Lends the first `length` of eight sevens, and shows all eight afterwards.
-fn copy(rt: &impl Print, label: &[u8], buf: &[u8; 1024], length: u64) -> io::Result<()> {
+// Lends the first of eight sevens, as many as the row says, and shows all eight afterwards.
+fn copy(rt: &impl Print, row: Row<'_>, buf: &[u8; 1024]) -> io::Result<()> {
+    let [length] = row.numbers::<1>();
     let mut out = [7u64; 8];
-    print::words(rt, label)?;
+    print::words(rt, row.label)?;
     copy_to(rt, buf, &mut out, length)?;
     print::words(rt, b", output")?;
     print::numbers(rt, &out)?;
@@ -35,71 +35,65 @@ fn map_of_two(count: u64) -> [u8; 1024] {
     buf
 }
 
-// Each is given the length that is lent.
-pub fn of_two(rt: &impl Print, label: &[u8], given: [u64; 6]) -> io::Result<()> {
-    let buf = map_of_two(3);
-    copy(rt, label, &buf, given[0])
+fn of_two(rt: &impl Print, row: Row<'_>) -> io::Result<()> {
+    copy(rt, row, &map_of_two(3))
 }
 
-pub fn none(rt: &impl Print, label: &[u8], given: [u64; 6]) -> io::Result<()> {
+fn none(rt: &impl Print, row: Row<'_>) -> io::Result<()> {
     let mut buf = [0u8; 1024];
     build::head(&mut buf, 3);
     build::platform_and_kernel(&mut buf, 88);
     build::module(&mut buf, 432, 4096, 1);
-    copy(rt, label, &buf, given[0])
+    copy(rt, row, &buf)
 }
 
-pub fn of_none(rt: &impl Print, label: &[u8], given: [u64; 6]) -> io::Result<()> {
+fn of_none(rt: &impl Print, row: Row<'_>) -> io::Result<()> {
     let mut buf = [0u8; 1024];
     build::head(&mut buf, 3);
     build::platform_and_kernel(&mut buf, 88);
     build::header(&mut buf, 432, 3, 8);
-    copy(rt, label, &buf, given[0])
+    copy(rt, row, &buf)
 }
 
 // The map itself is sound, and what follows it is refused.
-pub fn and_type_zero(rt: &impl Print, label: &[u8], given: [u64; 6]) -> io::Result<()> {
+fn and_type_zero(rt: &impl Print, row: Row<'_>) -> io::Result<()> {
     let mut buf = map_of_two(4);
     build::header(&mut buf, 488, 0, 8);
-    copy(rt, label, &buf, given[0])
+    copy(rt, row, &buf)
 }
 
 fn lengths(rt: &impl Print) -> io::Result<()> {
-    cases(
-        rt,
-        Kind::MapOfTwo,
+    rows(
         b"\
         two ranges into 0: 0\n\
         two ranges into 5: 5\n\
         two ranges into 6: 6\n\
         two ranges into 7: 7\n\
         two ranges into 8: 8\n",
-    )?;
-    cases(
-        rt,
-        Kind::NoMap,
+    )
+    .try_for_each(|row| of_two(rt, row))?;
+    rows(
         b"\
         no map into 8: 8\n\
         no map into 0: 0\n",
-    )?;
-    cases(
-        rt,
-        Kind::NoEntries,
+    )
+    .try_for_each(|row| none(rt, row))?;
+    rows(
         b"\
         no ranges into 0: 0\n\
         no ranges into 8: 8\n",
-    )?;
-    cases(
-        rt,
-        Kind::MapAndTypeZero,
+    )
+    .try_for_each(|row| of_none(rt, row))?;
+    rows(
         b"\
         fourth of type 0 into 8: 8\n\
         fourth of type 0 into 0: 0\n",
     )
+    .try_for_each(|row| and_type_zero(rt, row))
 }
 
 // A map after a module; its types need 64 bits, and so do an address and a size.
-fn after_a_module(rt: &impl Print) -> io::Result<()> {
+fn after_a_module(rt: &impl Print, row: Row<'_>) -> io::Result<()> {
     let mut buf = [0u8; 1024];
     build::head(&mut buf, 4);
     build::platform_and_kernel(&mut buf, 88);
@@ -107,10 +101,10 @@ fn after_a_module(rt: &impl Print) -> io::Result<()> {
     build::header(&mut buf, 528, 3, 56);
     build::entry(&mut buf, 536, 0, 9223372036854775808, 18446744073709551615);
     build::entry(&mut buf, 560, 18446744073709551615, 1, 9223372036854775809);
-    copy(rt, b"types of 64 bits after a module into 6", &buf, 6)
+    copy(rt, row, &buf)
 }
 
 pub fn all(rt: &impl Print) -> io::Result<()> {
     lengths(rt)?;
-    after_a_module(rt)
+    rows(b"types of 64 bits after a module into 6: 6\n").try_for_each(|row| after_a_module(rt, row))
 }

@@ -1,13 +1,13 @@
 // Which module holds an address.
-use crate::{Kind, cases};
 use cases_contexts::build;
 use cases_shared::show;
 use cases_text::print;
+use cases_text::table::{Row, rows};
 use std::io;
 
 fn ask(rt: &impl Print, label: &[u8], buf: &[u8; 1024], address: u64) -> io::Result<()> {
     print::words(rt, label)?;
-    print::number(rt, b", address ", address)?;
+    print!(rt; ", address {address}")?;
     show::answer(rt, ultra_questions::module_holding(buf, address))?;
     print::words(rt, b"\n")
 }
@@ -21,15 +21,13 @@ fn with_one(count: u64, address: u64, size: u64) -> [u8; 1024] {
 }
 
 // The module's address and size, and the address asked for.
-pub fn one(rt: &impl Print, label: &[u8], given: [u64; 6]) -> io::Result<()> {
-    let buf = with_one(3, given[0], given[1]);
-    ask(rt, label, &buf, given[2])
+fn one(rt: &impl Print, row: Row<'_>) -> io::Result<()> {
+    let [address, size, asked] = row.numbers::<3>();
+    ask(rt, row.label, &with_one(3, address, size), asked)
 }
 
 fn ones(rt: &impl Print) -> io::Result<()> {
-    cases(
-        rt,
-        Kind::OneModule,
+    rows(
         b"\
         module of 5000 at 2097152: 2097152 5000 2097151\n\
         module of 5000 at 2097152: 2097152 5000 2097152\n\
@@ -72,6 +70,7 @@ fn ones(rt: &impl Print) -> io::Result<()> {
         module of 2^64 - 1 at 0: 0 18446744073709551615 18446744073709551614\n\
         module of 2^64 - 1 at 0: 0 18446744073709551615 18446744073709551615\n",
     )
+    .try_for_each(|row| one(rt, row))
 }
 
 fn with_two(first: u64, first_size: u64, second: u64, second_size: u64) -> [u8; 1024] {
@@ -81,15 +80,14 @@ fn with_two(first: u64, first_size: u64, second: u64, second_size: u64) -> [u8; 
 }
 
 // The address and the size of each of two modules, and the address asked for.
-pub fn two(rt: &impl Print, label: &[u8], given: [u64; 6]) -> io::Result<()> {
-    let buf = with_two(given[0], given[1], given[2], given[3]);
-    ask(rt, label, &buf, given[4])
+fn two(rt: &impl Print, row: Row<'_>) -> io::Result<()> {
+    let [first, first_size, second, second_size, asked] = row.numbers::<5>();
+    let buf = with_two(first, first_size, second, second_size);
+    ask(rt, row.label, &buf, asked)
 }
 
 fn twos(rt: &impl Print) -> io::Result<()> {
-    cases(
-        rt,
-        Kind::TwoModules,
+    rows(
         b"\
         second starts lower: 8192 8192 4096 8192 4095\n\
         second starts lower: 8192 8192 4096 8192 4096\n\
@@ -111,52 +109,53 @@ fn twos(rt: &impl Print) -> io::Result<()> {
         one page after the other: 4096 1 8192 1 12287\n\
         one page after the other: 4096 1 8192 1 12288\n",
     )
+    .try_for_each(|row| two(rt, row))
 }
 
 // In place of the first module an attribute of type 7 with the same bytes.
-pub fn seven_and_module(rt: &impl Print, label: &[u8], given: [u64; 6]) -> io::Result<()> {
+fn seven_and_module(rt: &impl Print, row: Row<'_>) -> io::Result<()> {
+    let [asked] = row.numbers::<1>();
     let mut buf = with_two(8192, 8192, 12288, 8192);
     build::header(&mut buf, 432, 7, 96);
-    ask(rt, label, &buf, given[0])
+    ask(rt, row.label, &buf, asked)
 }
 
 // The kernel's bytes 80..95, where a module has its address and size, hold 47 and 4096; and the module is past the count.
-pub fn none(rt: &impl Print, label: &[u8], given: [u64; 6]) -> io::Result<()> {
+fn none(rt: &impl Print, row: Row<'_>) -> io::Result<()> {
+    let [asked] = row.numbers::<1>();
     let mut buf = with_one(2, 4096, 4096);
     build::put(&mut buf, 184, 8, 4096);
-    ask(rt, label, &buf, given[0])
+    ask(rt, row.label, &buf, asked)
 }
 
 // The first module is sound and holds the address, and what follows it is refused.
-pub fn and_type_zero(rt: &impl Print, label: &[u8], given: [u64; 6]) -> io::Result<()> {
+fn and_type_zero(rt: &impl Print, row: Row<'_>) -> io::Result<()> {
+    let [asked] = row.numbers::<1>();
     let mut buf = with_one(4, 4096, 4096);
     build::header(&mut buf, 528, 0, 8);
-    ask(rt, label, &buf, given[0])
+    ask(rt, row.label, &buf, asked)
 }
 
 fn others(rt: &impl Print) -> io::Result<()> {
-    cases(
-        rt,
-        Kind::SevenAndModule,
+    rows(
         b"\
         type 7 that looks like a module: 8192\n\
         type 7 that looks like a module: 12288\n",
-    )?;
-    cases(
-        rt,
-        Kind::NoModule,
+    )
+    .try_for_each(|row| seven_and_module(rt, row))?;
+    rows(
         b"\
         no module: 0\n\
         no module: 47\n\
         no module: 4096\n",
-    )?;
-    cases(
-        rt,
-        Kind::ModuleAndTypeZero,
+    )
+    .try_for_each(|row| none(rt, row))?;
+    rows(
         b"\
         fourth of type 0: 4096\n\
         fourth of type 0: 0\n",
     )
+    .try_for_each(|row| and_type_zero(rt, row))
 }
 
 pub fn all(rt: &impl Print) -> io::Result<()> {

@@ -1,7 +1,8 @@
 // Whole contexts, in arrays of zeros.
-use crate::{Kind, cases, read};
+use crate::read;
 use cases_contexts::build;
 use cases_shared::show;
+use cases_text::table::{Row, rows};
 use std::io;
 
 // A platform of 88 bytes, a kernel, and a third attribute with a header and nothing else.
@@ -14,35 +15,34 @@ fn with_third(count: u64, kind: u64, size: u64) -> [u8; 1024] {
 }
 
 // The third attribute is a map of two ranges: the address and the size of each.
-pub fn two_ranges(rt: &impl Print, label: &[u8], given: [u64; 6]) -> io::Result<()> {
+fn two_ranges(rt: &impl Print, row: Row<'_>) -> io::Result<()> {
+    let [first, first_size, second, second_size] = row.numbers::<4>();
     let mut buf = with_third(3, 3, 56);
-    build::entry(&mut buf, 440, given[0], given[1], 1);
-    build::entry(&mut buf, 464, given[2], given[3], 1);
-    read(rt, label, &buf, 1024)
+    build::entry(&mut buf, 440, first, first_size, 1);
+    build::entry(&mut buf, 464, second, second_size, 1);
+    read(rt, row.label, &buf, 1024)
 }
 
 fn ranges(rt: &impl Print) -> io::Result<()> {
-    cases(
-        rt,
-        Kind::TwoRanges,
+    rows(
         b"\
         ranges (0, 4096), (4096, 1): 0 4096 4096 1\n\
         ranges (0, 4097), (4096, 1): 0 4097 4096 1\n\
         range that ends at 2^64, then one at 0: 18446744073709547520 4096 0 0\n",
     )
+    .try_for_each(|row| two_ranges(rt, row))
 }
 
 // The third attribute is a map with one range: the map's size, and the range's address, size and type.
-pub fn one_range(rt: &impl Print, label: &[u8], given: [u64; 6]) -> io::Result<()> {
-    let mut buf = with_third(3, 3, given[0]);
-    build::entry(&mut buf, 440, given[1], given[2], given[3]);
-    read(rt, label, &buf, 1024)
+fn one_range(rt: &impl Print, row: Row<'_>) -> io::Result<()> {
+    let [map_size, address, size, kind] = row.numbers::<4>();
+    let mut buf = with_third(3, 3, map_size);
+    build::entry(&mut buf, 440, address, size, kind);
+    read(rt, row.label, &buf, 1024)
 }
 
 fn range(rt: &impl Print) -> io::Result<()> {
-    cases(
-        rt,
-        Kind::OneRange,
+    rows(
         b"\
         range at 2^64 - 4096, size 4096: 32 18446744073709547520 4096 1\n\
         range at 2^64 - 4096, size 4097: 32 18446744073709547520 4097 1\n\
@@ -51,57 +51,57 @@ fn range(rt: &impl Print) -> io::Result<()> {
         map type 2^32: 32 0 4096 4294967296\n\
         map type 0: 32 0 4096 0\n",
     )
+    .try_for_each(|row| one_range(rt, row))
 }
 
 // Three attributes of 16 bytes after the kernel: the count, and their types.
-pub fn three_types(rt: &impl Print, label: &[u8], given: [u64; 6]) -> io::Result<()> {
-    let mut buf = with_third(given[0], given[1], 16);
-    build::header(&mut buf, 448, given[2], 16);
-    build::header(&mut buf, 464, given[3], 16);
-    read(rt, label, &buf, 1024)
+fn three_types(rt: &impl Print, row: Row<'_>) -> io::Result<()> {
+    let [count, first, second, third] = row.numbers::<4>();
+    let mut buf = with_third(count, first, 16);
+    build::header(&mut buf, 448, second, 16);
+    build::header(&mut buf, 464, third, 16);
+    read(rt, row.label, &buf, 1024)
 }
 
 fn types(rt: &impl Print) -> io::Result<()> {
-    cases(
-        rt,
-        Kind::ThreeTypes,
+    rows(
         b"\
         types 1, 2, 7, 7: 4 7 7 0\n\
         types 1, 2, 7, 8, 7: 5 7 8 7\n\
         types 1, 2, 5, 8, 5: 5 5 8 5\n",
     )
+    .try_for_each(|row| three_types(rt, row))
 }
 
 // A platform with the kernel right after it: the platform's size, and how many bytes are read.
-pub fn platform(rt: &impl Print, label: &[u8], given: [u64; 6]) -> io::Result<()> {
+fn platform(rt: &impl Print, row: Row<'_>) -> io::Result<()> {
+    let [size, length] = row.numbers::<2>();
     let mut buf = [0u8; 1024];
     build::head(&mut buf, 2);
-    build::platform_and_kernel(&mut buf, given[0]);
-    read(rt, label, &buf, given[1])
+    build::platform_and_kernel(&mut buf, size);
+    read(rt, row.label, &buf, length)
 }
 
 fn platforms(rt: &impl Print) -> io::Result<()> {
-    cases(
-        rt,
-        Kind::Platform,
+    rows(
         b"\
         platform of 56 bytes: 56 400\n\
         platform of 48 bytes: 48 1024\n\
         room that ends with the kernel: 88 432\n\
         room one byte short of the kernel's end: 88 431\n",
     )
+    .try_for_each(|row| platform(rt, row))
 }
 
 // The third attribute's type and size.
-pub fn third(rt: &impl Print, label: &[u8], given: [u64; 6]) -> io::Result<()> {
-    let buf = with_third(3, given[0], given[1]);
-    read(rt, label, &buf, 1024)
+fn third(rt: &impl Print, row: Row<'_>) -> io::Result<()> {
+    let [kind, size] = row.numbers::<2>();
+    let buf = with_third(3, kind, size);
+    read(rt, row.label, &buf, 1024)
 }
 
 fn thirds(rt: &impl Print) -> io::Result<()> {
-    cases(
-        rt,
-        Kind::Third,
+    rows(
         b"\
         size 0: 7 0\n\
         size 4294967288: 7 4294967288\n\
@@ -113,6 +113,7 @@ fn thirds(rt: &impl Print) -> io::Result<()> {
         command line of 16 bytes: 5 16\n\
         framebuffer of 24 bytes: 6 24\n",
     )
+    .try_for_each(|row| third(rt, row))
 }
 
 fn read_long(rt: &impl Print, label: &[u8], buf: &[u8; 1024], long: &mut [u8]) -> io::Result<()> {
@@ -124,20 +125,20 @@ fn read_long(rt: &impl Print, label: &[u8], buf: &[u8; 1024], long: &mut [u8]) -
 }
 
 // The same in a buffer of 70,000 bytes.
-pub fn long_third(rt: &impl Print, label: &[u8], given: [u64; 6]) -> io::Result<()> {
-    let buf = with_third(3, given[0], given[1]);
+fn long_third(rt: &impl Print, row: Row<'_>) -> io::Result<()> {
+    let [kind, size] = row.numbers::<2>();
+    let buf = with_third(3, kind, size);
     let mut long = [0u8; 70000];
-    read_long(rt, label, &buf, &mut long)
+    read_long(rt, row.label, &buf, &mut long)
 }
 
 fn long_thirds(rt: &impl Print) -> io::Result<()> {
-    cases(
-        rt,
-        Kind::LongThird,
+    rows(
         b"\
         context that ends at 65536 of 70000: 7 65104\n\
         context that ends at 65544 of 70000: 7 65112\n",
     )
+    .try_for_each(|row| long_third(rt, row))
 }
 
 pub fn all(rt: &impl Print) -> io::Result<()> {

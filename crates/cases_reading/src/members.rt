@@ -1,7 +1,8 @@
 // Contexts on both sides of document 01's rules on members, 12 to 16: one context with a number or a byte put over it. Adding runs the
 // same rules in cases_adding.
-use crate::{Kind, cases, read};
+use crate::read;
 use cases_contexts::build;
+use cases_text::table::{Row, rows};
 use std::io;
 
 // A platform, a kernel, a module, a command line and a framebuffer, in 576 bytes. Each text fills its field up to the closing zero, at 55,
@@ -45,41 +46,43 @@ fn base() -> [u8; 1024] {
 }
 
 // A number of 8 bytes: where, and which.
-pub fn number(rt: &impl Print, label: &[u8], given: [u64; 6]) -> io::Result<()> {
+fn number(rt: &impl Print, row: Row<'_>) -> io::Result<()> {
+    let [at, number] = row.numbers::<2>();
     let mut buf = base();
-    build::put(&mut buf, given[0], 8, given[1]);
-    read(rt, label, &buf, 1024)
+    build::put(&mut buf, at, 8, number);
+    read(rt, row.label, &buf, 1024)
 }
 
 // Two numbers of 4 bytes, one after the other: where, and which.
-pub fn halves(rt: &impl Print, label: &[u8], given: [u64; 6]) -> io::Result<()> {
+fn halves(rt: &impl Print, row: Row<'_>) -> io::Result<()> {
+    let [at, first, second] = row.numbers::<3>();
     let mut buf = base();
-    build::header(&mut buf, given[0], given[1], given[2]);
-    read(rt, label, &buf, 1024)
+    build::header(&mut buf, at, first, second);
+    read(rt, row.label, &buf, 1024)
 }
 
 // A framebuffer's pitch, bits and format.
-pub fn pixels(rt: &impl Print, label: &[u8], given: [u64; 6]) -> io::Result<()> {
+fn pixels(rt: &impl Print, row: Row<'_>) -> io::Result<()> {
+    let [pitch, bits, format] = row.numbers::<3>();
     let mut buf = base();
-    build::put(&mut buf, 560, 4, given[0]);
-    build::put(&mut buf, 564, 2, given[1]);
-    build::put(&mut buf, 566, 2, given[2]);
-    read(rt, label, &buf, 1024)
+    build::put(&mut buf, 560, 4, pitch);
+    build::put(&mut buf, 564, 2, bits);
+    build::put(&mut buf, 566, 2, format);
+    read(rt, row.label, &buf, 1024)
 }
 
 // A byte: where, and which.
-pub fn byte(rt: &impl Print, label: &[u8], given: [u64; 6]) -> io::Result<()> {
+fn byte(rt: &impl Print, row: Row<'_>) -> io::Result<()> {
+    let [at, byte] = row.numbers::<2>();
     let mut buf = base();
-    build::put(&mut buf, given[0], 1, given[1]);
-    read(rt, label, &buf, 1024)
+    build::put(&mut buf, at, 1, byte);
+    read(rt, row.label, &buf, 1024)
 }
 
 // The physical base is at 104, the virtual one at 112, the size at 120.
 fn kernels(rt: &impl Print) -> io::Result<()> {
-    cases(rt, Kind::Halves, b"kernel of 328 bytes: 96 2 328\n")?;
-    cases(
-        rt,
-        Kind::Number,
+    rows(b"kernel of 328 bytes: 96 2 328\n").try_for_each(|row| halves(rt, row))?;
+    rows(
         b"\
         kernel at physical 2048: 104 2048\n\
         kernel at physical 4096: 104 4096\n\
@@ -93,21 +96,19 @@ fn kernels(rt: &impl Print) -> io::Result<()> {
         kernel, virtual end at 2^64: 112 18446744073709543424\n\
         kernel, virtual end above: 112 18446744073709547520\n",
     )
+    .try_for_each(|row| number(rt, row))
 }
 
 // The type is at 444, after 4 reserved bytes; the address is at 512, the size at 520.
 fn modules(rt: &impl Print) -> io::Result<()> {
-    cases(
-        rt,
-        Kind::Halves,
+    rows(
         b"\
         module of type 0: 440 0 0\n\
         module of type 2: 440 0 2\n\
         module of type 3: 440 0 3\n",
-    )?;
-    cases(
-        rt,
-        Kind::Number,
+    )
+    .try_for_each(|row| halves(rt, row))?;
+    rows(
         b"\
         module at 2048: 512 2048\n\
         module at 4096: 512 4096\n\
@@ -115,13 +116,12 @@ fn modules(rt: &impl Print) -> io::Result<()> {
         module that ends at 2^64: 520 18446744073709547520\n\
         module that ends one past 2^64: 520 18446744073709547521\n",
     )
+    .try_for_each(|row| number(rt, row))
 }
 
 // The address is at 568.
 fn framebuffers(rt: &impl Print) -> io::Result<()> {
-    cases(
-        rt,
-        Kind::Pixels,
+    rows(
         b"\
         format 0, 24 bits: 4 24 0\n\
         format 0, 32 bits: 4 32 0\n\
@@ -133,20 +133,18 @@ fn framebuffers(rt: &impl Print) -> io::Result<()> {
         format 5, 24 bits: 4 24 5\n\
         format 5, 32 bits: 4 32 5\n\
         pitch 3 for 32 bits: 3 32 3\n",
-    )?;
-    cases(
-        rt,
-        Kind::Number,
+    )
+    .try_for_each(|row| pixels(rt, row))?;
+    rows(
         b"\
         framebuffer that ends at 2^64: 568 18446744073709551612\n\
         framebuffer that ends one past 2^64: 568 18446744073709551613\n",
     )
+    .try_for_each(|row| number(rt, row))
 }
 
 fn texts(rt: &impl Print) -> io::Result<()> {
-    cases(
-        rt,
-        Kind::Byte,
+    rows(
         b"\
         platform name of 32 bytes: 55 47\n\
         path of 256 bytes: 431 47\n\
@@ -163,6 +161,7 @@ fn texts(rt: &impl Print) -> io::Result<()> {
         path without its slash: 176 98\n\
         path of 0 bytes: 176 0\n",
     )
+    .try_for_each(|row| byte(rt, row))
 }
 
 pub fn all(rt: &impl Print) -> io::Result<()> {

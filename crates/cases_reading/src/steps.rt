@@ -1,7 +1,7 @@
 // Steps from a cursor to the next.
-use crate::{Kind, cases};
 use cases_contexts::build;
 use cases_shared::show;
+use cases_text::table::{Row, rows};
 use std::io;
 use ultra_reading::Cursor;
 
@@ -19,30 +19,18 @@ fn space() -> [u8; 1024] {
     buf
 }
 
-fn step_from(
-    rt: &impl Print,
-    label: &[u8],
-    buf: &[u8; 1024],
-    index: u64,
-    offset: u64,
-) -> io::Result<()> {
+// The cursor's index and offset.
+fn step(rt: &impl Print, row: Row<'_>) -> io::Result<()> {
+    let [index, offset] = row.numbers::<2>();
     let cursor = Cursor {
         index: (index % 4294967296) as u32,
         offset: (offset % 4294967296) as u32,
     };
-    show::step(rt, label, cursor.step(buf))
-}
-
-// The cursor's index and offset.
-pub fn step(rt: &impl Print, label: &[u8], given: [u64; 6]) -> io::Result<()> {
-    let buf = space();
-    step_from(rt, label, &buf, given[0], given[1])
+    show::step(rt, row.label, cursor.step(&space()))
 }
 
 pub fn all(rt: &impl Print) -> io::Result<()> {
-    cases(
-        rt,
-        Kind::Step,
+    rows(
         b"\
         step 0 at 8: 0 8\n\
         step 1 at 96: 1 96\n\
@@ -60,4 +48,5 @@ pub fn all(rt: &impl Print) -> io::Result<()> {
         step 0 at 536, size 4294967288: 0 536\n\
         step 0 at 544, a kernel out of place: 0 544\n",
     )
+    .try_for_each(|row| step(rt, row))
 }

@@ -1,70 +1,47 @@
 // Records to add. Every member is set, no two are alike, and no byte of them is 165.
-use ultra_format::{
-    FramebufferRecord, KernelRecord, ModuleRecord, OptionalU8, OptionalU64, PlatformRecord,
-};
+use ultra_format::{FramebufferRecord, KernelRecord, ModuleRecord, PlatformRecord};
 
-// Fields that begin with a text, and zeros after it.
-pub fn name(text: &[u8]) -> [u8; 32] {
-    let mut name = [0u8; 32];
-    if text.len() <= 32 {
-        byte_layout::store(text, &mut name, 0);
+// A field that begins with a text, and zeros after it.
+pub fn field<const N: usize>(text: &[u8]) -> [u8; N] {
+    let mut field = [0; N];
+    if text.len() <= N {
+        byte_layout::store(text, &mut field, 0);
     }
-    name
-}
-
-pub fn module_name(text: &[u8]) -> [u8; 64] {
-    let mut name = [0u8; 64];
-    if text.len() <= 64 {
-        byte_layout::store(text, &mut name, 0);
-    }
-    name
-}
-
-pub fn path(text: &[u8]) -> [u8; 256] {
-    let mut path = [0u8; 256];
-    if text.len() <= 256 {
-        byte_layout::store(text, &mut path, 0);
-    }
-    path
+    field
 }
 
 pub fn platform() -> PlatformRecord {
-    let name = name(b"frost");
     PlatformRecord {
         kind: 3,
         loader_major: 5,
         loader_minor: 6,
-        name,
+        name: field(b"frost"),
         rsdp: 917504,
-        higher_half_base: OptionalU64::Present(18446603336221196288),
-        depth: OptionalU8::Present(7),
-        dtb: OptionalU64::Present(73728),
-        smbios: OptionalU64::Present(81920),
+        higher_half_base: Some(18446603336221196288),
+        depth: Some(7),
+        dtb: Some(73728),
+        smbios: Some(81920),
     }
 }
 
 pub fn kernel() -> KernelRecord {
-    let disk_guid = *b"0123456789ABCDEF";
-    let partition_guid = *b"GHIJKLMNOPQRSTUV";
-    let path = path(b"/boot/k");
     KernelRecord {
         physical_base: 2097152,
         virtual_base: 18446744071564165120,
         size: 65536,
         partition_type: 8,
-        disk_guid,
-        partition_guid,
+        disk_guid: *b"0123456789ABCDEF",
+        partition_guid: *b"GHIJKLMNOPQRSTUV",
         disk_index: 9,
         partition_index: 10,
-        path,
+        path: field(b"/boot/k"),
     }
 }
 
 pub fn module() -> ModuleRecord {
-    let name = module_name(b"initrd");
     ModuleRecord {
         kind: 1,
-        name,
+        name: field(b"initrd"),
         address: 16777216,
         size: 123457,
     }

@@ -1,71 +1,64 @@
 // Parts of the lines that programs print for answers.
 use cases_text::print;
-use refusals::{Answer, Refusal};
+use refusals::Refusal;
 use std::io;
-use ultra_reading::{Header, Reading, Step};
+use ultra_reading::{Accepted, Cursor, Header};
 
 pub fn refusal(rt: &impl Print, refusal: Refusal) -> io::Result<()> {
-    print::form(
-        rt,
-        b": refused # at #",
-        &[refusal.number as u64, refusal.offset as u64],
-    )
+    print!(rt; ": refused {} at {}", refusal.number, refusal.offset)
 }
 
-pub fn answer(rt: &impl Print, answer: Answer) -> io::Result<()> {
+pub fn answer(rt: &impl Print, answer: Result<u32, Refusal>) -> io::Result<()> {
     match answer {
-        Answer::Done(value) => print::number(rt, b": done ", value as u64),
-        Answer::Refused(r) => refusal(rt, r),
+        Ok(value) => print!(rt; ": done {value}"),
+        Err(r) => refusal(rt, r),
     }
 }
 
 // What a call answers, on a line of its own.
-pub fn call(rt: &impl Print, label: &[u8], res: Answer) -> io::Result<()> {
+pub fn call(rt: &impl Print, label: &[u8], res: Result<u32, Refusal>) -> io::Result<()> {
     print::words(rt, label)?;
     answer(rt, res)?;
     print::words(rt, b"\n")
 }
 
 // What reading answers, the same.
-pub fn reading(rt: &impl Print, label: &[u8], answer: Reading) -> io::Result<()> {
+pub fn reading(rt: &impl Print, label: &[u8], answer: Result<Accepted, Refusal>) -> io::Result<()> {
     print::words(rt, label)?;
     match answer {
-        Reading::Accepted(version, used) => print::form(
-            rt,
-            b": version #.#, used #",
-            &[version.major as u64, version.minor as u64, used as u64],
-        ),
-        Reading::Refused(r) => refusal(rt, r),
+        Ok(Accepted { version, used }) => {
+            print!(rt;
+                ": version {}.{}, used {used}",
+                version.major, version.minor
+            )
+        }
+        Err(r) => refusal(rt, r),
     }?;
     print::words(rt, b"\n")
 }
 
 // What a step answers, the same.
-pub fn step(rt: &impl Print, label: &[u8], answer: Step) -> io::Result<()> {
+pub fn step(
+    rt: &impl Print,
+    label: &[u8],
+    answer: Result<Option<(Header, Cursor)>, Refusal>,
+) -> io::Result<()> {
     print::words(rt, label)?;
     match answer {
-        Step::Attribute(header, next) => print::form(
-            rt,
-            b": type # at # size #, next # at #",
-            &[
-                header.kind as u64,
-                header.start as u64,
-                header.size as u64,
-                next.index as u64,
-                next.offset as u64,
-            ],
+        Ok(Some((header, next))) => print!(rt;
+            ": type {} at {} size {}, next {} at {}",
+            header.kind, header.start, header.size, next.index, next.offset
         ),
-        Step::End => print::words(rt, b": end"),
-        Step::Refused(r) => refusal(rt, r),
+        Ok(None) => print::words(rt, b": end"),
+        Err(r) => refusal(rt, r),
     }?;
     print::words(rt, b"\n")
 }
 
 // Where an attribute is, after its answer.
 pub fn header(rt: &impl Print, header: Header) -> io::Result<()> {
-    print::form(
-        rt,
-        b", type # at # size #\n",
-        &[header.kind as u64, header.start as u64, header.size as u64],
+    println!(rt;
+        ", type {} at {} size {}",
+        header.kind, header.start, header.size
     )
 }

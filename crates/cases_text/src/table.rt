@@ -1,95 +1,86 @@
 // Tables of cases. A row is a label, a colon and what the case is given after a blank, and ends with a newline. No label has a colon.
-ghost use Rattle.std.specs.Prelude.{◌<◌, ◌≤◌, length};
+ghost use Rattle.std.specs.Prelude.{◌≤◌, length};
+ghost use Rattle.std.specs.Iterator.{at_most};
 
-// Where the row that begins at `start` ends, newline included.
-pub fn end(table: &[u8], start: usize) -> usize
-    requires { start < length table.now }
-    ensures lower_bound { start < result }
-    ensures upper_bound { result ≤ length table.now }
-{
-    for i in start..table.len() {
-        if table[i] == b'\n' {
-            return i + 1;
-        }
-    }
-    table.len()
-}
-
-fn colon(row: &[u8]) -> usize
-    ensures { result ≤ length row.now }
-{
-    for i in 0..row.len() {
-        if row[i] == b':' {
-            return i;
-        }
-    }
-    row.len()
-}
-
-pub fn label(row: &[u8]) -> &[u8] {
-    let end = colon(row);
-    &row[0..end]
-}
-
-// What the case is given, as bytes.
-pub fn given(row: &[u8]) -> &[u8] {
-    let end = row.len();
-    let colon = colon(row);
-    if end < 3 {
-        return &row[0..0];
-    }
-    if end - 3 < colon {
-        return &row[0..0];
-    }
-    &row[colon + 2..end - 1]
-}
-
-// The number with one more digit, where it stays below 2^64.
-fn with_digit(number: u64, byte: u8) -> u64 {
-    if byte < b'0' {
-        return number;
-    }
-    if 1844674407370955161 < number {
-        return number;
-    }
-    (10 * number).wrapping_add((byte - b'0') as u64)
-}
-
-// Puts the next byte of a row to the numbers, of which there are `count` so far. Answers how many there are then.
-fn put_byte(numbers: &mut [u64], count: usize, byte: u8) -> usize {
-    if byte == b' ' {
-        if count < numbers.len() {
-            return count + 1;
-        }
-        return count;
-    }
-    if count < 1 {
-        return count;
-    }
-    if count <= numbers.len() {
-        numbers[count - 1] = with_digit(numbers[count - 1], byte);
-    }
-    count
-}
-
-// What the case is given, as numbers: decimal digits, and a blank before each. They take the place of zeros. Answers how many there are.
-pub fn put_numbers(row: &[u8], numbers: &mut [u64]) -> usize {
-    let mut count = 0;
-    for i in colon(row)..row.len() {
-        count = put_byte(numbers, count, row[i]);
-    }
-    count
-}
-
-// The same, up to six.
 #[derive(Clone, Copy)]
-pub struct Values {
-    pub count: usize,
-    pub numbers: [u64; 6],
+pub struct Row<'a> {
+    pub label: &'a [u8],
+    // As bytes, without the newline.
+    pub given: &'a [u8],
 }
 
-pub fn numbers(row: &[u8]) -> Values {
-    let mut numbers = [0u64; 6];
-    let count = put_numbers(row, &mut numbers);
-    Values { count, numbers }
+impl<'a> Row<'a> {
+    fn new(line: &'a [u8]) -> Row<'a> {
+        let colon = line.iter().position(|b| *b == b':').unwrap_or(line.len());
+        let end = line.len().saturating_sub(1);
+        Row {
+            label: &line[..colon],
+            given: line.get(colon + 2..end).unwrap_or(b""),
+        }
+    }
+
+    // The letter for its kind that the label begins with, and the row without it and the blank after it.
+    pub fn kind(self) -> Option<(u8, Row<'a>)> {
+        match self.label {
+            [kind, _, label @ ..] => Some((*kind, Row { label, ..self })),
+            _ => None,
+        }
+    }
+
+    // Puts what the case is given, as numbers, in the place of zeros. Answers how many there are; what is more is left out.
+    pub fn put_numbers(self, numbers: &mut [u64]) -> usize
+        ensures { result ≤ length numbers.new }
+    {
+        let mut count = 0;
+        let words = self
+            .given
+            .split(|b| *b == b' ')
+            .filter(|word| !word.is_empty());
+        for digits in words {
+            let Some(number) = numbers.get_mut(count) else {
+                break;
+            };
+            *number = decimal(digits);
+            count += 1;
+        }
+        count
+    }
+
+    // The same as an array, with zeros after them.
+    pub fn numbers<const N: usize>(self) -> [u64; N] {
+        let mut numbers = [0; N];
+        self.put_numbers(&mut numbers);
+        numbers
+    }
+}
+
+// The number that the digits are, below 2^64.
+fn decimal(digits: &[u8]) -> u64 {
+    digits
+        .iter()
+        .filter_map(|byte| char::from(*byte).to_digit(10))
+        .fold(
+            0u64,
+            |number, digit| number.wrapping_mul(10).wrapping_add(u64::from(digit)),
+        )
+}
+
+// The rows that are left of a table, in order.
+#[derive(Drop)]
+pub struct RowsLeft<'a>(&'a [u8]);
+
+pub fn rows(table: &[u8]) -> RowsLeft<'_> {
+    RowsLeft(table)
+}
+
+impl<'a> Iterator for RowsLeft<'a> {
+    type Item = Row<'a>;
+
+    ghost remaining = { λ s. at_most (length s.0.now) };
+
+    fn next(&mut self) -> Option<Row<'a>> {
+        let line = self.0.split_inclusive(|b| *b == b'\n').next()?;
+        self.0 = &self.0[line.len()..];
+        Some(Row::new(line))
+    }
 }

@@ -6,18 +6,15 @@ ghost use Rattle.ultra_map_question.specs.MapQuestion.{map_copied};
 ghost use Rattle.example_kernel.specs.Kernel.{value_or_none};
 
 use cases_text::print;
-use refusals::Answer;
 use std::io;
-use ultra_reading::Reading;
 
 // Copies the memory ranges, three numbers each: address, size, type. Answers how many; 0 where there is no map, or no place for it.
 fn copy_ranges(context: &[u8], ranges: &mut [u64]) -> u32
     ensures { result ≡ value_or_none (map_copied context.now ranges.old).0 }
 {
-    let answer = ultra_questions::copy_map(context, ranges);
-    match answer {
-        Answer::Done(entries) => entries,
-        Answer::Refused(_) => 0,
+    match ultra_questions::copy_map(context, ranges) {
+        Ok(entries) => entries,
+        Err(_) => 0,
     }
 }
 
@@ -26,11 +23,9 @@ fn copy_ranges(context: &[u8], ranges: &mut [u64]) -> u32
 fn go_on(rt: &impl Print, context: &[u8], used: u32) -> io::Result<()> {
     let mut ranges = [0u64; 384];
     let entries = copy_ranges(context, &mut ranges);
-    print::form(
-        rt,
-        b"used=#\nranges=#\nfirst=#,#,#\ncmdline=",
-        &[used as u64, entries as u64, ranges[0], ranges[1], ranges[2]],
-    )?;
+    println!(rt; "used={used}")?;
+    println!(rt; "ranges={entries}")?;
+    print!(rt; "first={},{},{}\ncmdline=", ranges[0], ranges[1], ranges[2])?;
     print::words(
         rt,
         ultra_questions::command_line(context, b"console=serial"),
@@ -40,14 +35,9 @@ fn go_on(rt: &impl Print, context: &[u8], used: u32) -> io::Result<()> {
 
 // A context is accepted whole, or refused by a number and an offset.
 fn take_over(rt: &impl Print, context: &[u8]) -> io::Result<()> {
-    let reading = ultra_reading::read(context);
-    match reading {
-        Reading::Accepted(_, used) => go_on(rt, context, used),
-        Reading::Refused(refusal) => print::form(
-            rt,
-            b"refused=#,#\n",
-            &[refusal.number as u64, refusal.offset as u64],
-        ),
+    match ultra_reading::read(context) {
+        Ok(accepted) => go_on(rt, context, accepted.used),
+        Err(refusal) => println!(rt; "refused={},{}", refusal.number, refusal.offset),
     }
 }
 

@@ -4,8 +4,7 @@
 
 mod argument;
 
-use argument::Load;
-use refusals::{Answer, Refusal};
+use refusals::Refusal;
 use std::io;
 
 // The line that a listing has for a refused context.
@@ -17,8 +16,8 @@ fn refused(rt: &impl Eprint, refusal: Refusal) -> io::Result<()> {
 fn export(rt: &(impl Print + Eprint), input: &[u8], load: u64, out: &mut [u8]) -> io::Result<()> {
     let answer = handover_export::export(input, load, out);
     match answer {
-        Answer::Refused(refusal) => refused(rt, refusal),
-        Answer::Done(size) => rt.write_all(&out[..size as usize]),
+        Err(refusal) => refused(rt, refusal),
+        Ok(size) => rt.write_all(&out[..size as usize]),
     }
 }
 
@@ -32,8 +31,8 @@ fn run<R: io::Read>(rt: &(impl Print + Eprint), input: &mut R, load: u64) -> io:
 
 fn main(rt: HostRuntime) -> io::Result<()> {
     match argument::load_address(&rt) {
-        Load::Address(load) => run(&rt, &mut rt.stdin(), load),
-        Load::None => {
+        Some(load) => run(&rt, &mut rt.stdin(), load),
+        None => {
             eprintln!(rt;
                 "usage: export_context LOAD_ADDRESS <context >payload, the address in decimal digits"
             )

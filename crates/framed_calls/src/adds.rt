@@ -1,7 +1,7 @@
 // Beginning, and the adds of records.
 use crate::given;
 use call_frames::{answers, frame};
-use refusals::Answer;
+use refusals::Refusal;
 use ultra_format::{FramebufferRecord, KernelRecord, ModuleRecord, PlatformRecord};
 
 pub fn begin(buf: &mut [u8], out: &mut [u8]) -> u32 {
@@ -10,17 +10,16 @@ pub fn begin(buf: &mut [u8], out: &mut [u8]) -> u32 {
 }
 
 fn platform(frame: &[u8]) -> PlatformRecord {
-    let name = given::array_32(frame, 1);
     let present = frame::number(frame, 4);
-    let higher_half_base = given::wide(present % 2 == 1, frame::number(frame, 5));
-    let depth = given::narrow(present / 2 % 2 == 1, given::u8_at(frame, 6));
-    let dtb = given::wide(present / 4 % 2 == 1, frame::number(frame, 7));
-    let smbios = given::wide(present / 8 % 2 == 1, frame::number(frame, 8));
+    let higher_half_base = (present % 2 == 1).then_some(frame::number(frame, 5));
+    let depth = (present / 2 % 2 == 1).then_some(given::u8_at(frame, 6));
+    let dtb = (present / 4 % 2 == 1).then_some(frame::number(frame, 7));
+    let smbios = (present / 8 % 2 == 1).then_some(frame::number(frame, 8));
     PlatformRecord {
         kind: given::u32_at(frame, 0),
         loader_major: given::u16_at(frame, 1),
         loader_minor: given::u16_at(frame, 2),
-        name,
+        name: given::array(frame, 1),
         rsdp: frame::number(frame, 3),
         higher_half_base,
         depth,
@@ -30,27 +29,23 @@ fn platform(frame: &[u8]) -> PlatformRecord {
 }
 
 fn kernel(frame: &[u8]) -> KernelRecord {
-    let disk_guid = given::array_16(frame, 1);
-    let partition_guid = given::array_16(frame, 2);
-    let path = given::array_256(frame, 3);
     KernelRecord {
         physical_base: frame::number(frame, 0),
         virtual_base: frame::number(frame, 1),
         size: frame::number(frame, 2),
         partition_type: frame::number(frame, 3),
-        disk_guid,
-        partition_guid,
+        disk_guid: given::array(frame, 1),
+        partition_guid: given::array(frame, 2),
         disk_index: given::u32_at(frame, 4),
         partition_index: given::u32_at(frame, 5),
-        path,
+        path: given::array(frame, 3),
     }
 }
 
 fn module(frame: &[u8]) -> ModuleRecord {
-    let name = given::array_64(frame, 1);
     ModuleRecord {
         kind: given::u32_at(frame, 0),
-        name,
+        name: given::array(frame, 1),
         address: frame::number(frame, 1),
         size: frame::number(frame, 2),
     }
@@ -67,12 +62,12 @@ fn framebuffer(frame: &[u8]) -> FramebufferRecord {
     }
 }
 
-fn add_map(frame: &[u8], buf: &mut [u8], numbers: &mut [u64]) -> Answer {
+fn add_map(frame: &[u8], buf: &mut [u8], numbers: &mut [u64]) -> Result<u32, Refusal> {
     let n = frame::load_numbers(frame::string(frame, 1), numbers);
     ultra_building::add_map(buf, &numbers[0..n])
 }
 
-fn add(call: u32, frame: &[u8], buf: &mut [u8], numbers: &mut [u64]) -> Answer {
+fn add(call: u32, frame: &[u8], buf: &mut [u8], numbers: &mut [u64]) -> Result<u32, Refusal> {
     match call {
         13 => ultra_building::add_platform(buf, platform(frame)),
         14 => ultra_building::add_kernel(buf, kernel(frame)),

@@ -2,46 +2,18 @@
 ghost use Rattle.std.specs.Prelude.{◌≤◌};
 
 use call_frames::{answers, reply};
-use ultra_format::{
-    FramebufferRecord, KernelRecord, ModuleRecord, OptionalU8, OptionalU64, PlatformRecord,
-};
+use ultra_format::{FramebufferRecord, KernelRecord, ModuleRecord, PlatformRecord};
 use ultra_questions::AttributeAnswer;
 
 const NUMBERS: u32 = 31;
 
 const STRINGS: u32 = 6;
 
-fn wide(member: OptionalU64) -> u64 {
-    match member {
-        OptionalU64::Present(number) => number,
-        OptionalU64::Absent => 0,
-    }
-}
-
-fn narrow(member: OptionalU8) -> u64 {
-    match member {
-        OptionalU8::Present(number) => number as u64,
-        OptionalU8::Absent => 0,
-    }
-}
-
 // `worth` where the member is present, or 0.
-fn wide_bit(member: OptionalU64, worth: u64) -> u64
+fn bit<T: Copy>(member: Option<T>, worth: u64) -> u64
     ensures { result ≤ worth }
 {
-    match member {
-        OptionalU64::Present(_) => worth,
-        OptionalU64::Absent => 0,
-    }
-}
-
-fn narrow_bit(member: OptionalU8, worth: u64) -> u64
-    ensures { result ≤ worth }
-{
-    match member {
-        OptionalU8::Present(_) => worth,
-        OptionalU8::Absent => 0,
-    }
+    if member.is_some() { worth } else { 0 }
 }
 
 fn platform(out: &mut [u8], to: u32, record: PlatformRecord) -> u32 {
@@ -49,7 +21,7 @@ fn platform(out: &mut [u8], to: u32, record: PlatformRecord) -> u32 {
     let depth = record.depth;
     let dtb = record.dtb;
     let smbios = record.smbios;
-    let present = wide_bit(base, 1) + narrow_bit(depth, 2) + wide_bit(dtb, 4) + wide_bit(smbios, 8);
+    let present = bit(base, 1) + bit(depth, 2) + bit(dtb, 4) + bit(smbios, 8);
     reply::numbers(
         out,
         to,
@@ -59,10 +31,10 @@ fn platform(out: &mut [u8], to: u32, record: PlatformRecord) -> u32 {
             record.loader_minor as u64,
             record.rsdp,
             present,
-            wide(base),
-            narrow(depth),
-            wide(dtb),
-            wide(smbios),
+            base.unwrap_or(0),
+            depth.unwrap_or(0) as u64,
+            dtb.unwrap_or(0),
+            smbios.unwrap_or(0),
         ],
     )
 }

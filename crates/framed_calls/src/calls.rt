@@ -7,30 +7,27 @@ use call_frames::frame;
 // The answer to a frame that is no call.
 pub const MALFORMED: u32 = 4294967295;
 
-// What a number takes that is no call's: more than a frame can have.
-const NONE: u32 = 4294967295;
-
-// How many numbers a call takes.
-fn numbers_of(call: u32) -> u32 {
+// How many numbers a call takes; none for what is no call.
+fn numbers_of(call: u32) -> Option<u32> {
     match call {
-        1 | 2 | 7..=10 | 12 | 15 | 17 | 21 | 23..=28 | 32 => 0,
-        4..=6 | 11 | 29..=31 | 33 => 1,
-        3 => 2,
-        16 | 22 => 3,
-        14 | 18 | 20 => 6,
-        13 | 19 => 9,
-        _ => NONE,
+        1 | 2 | 7..=10 | 12 | 15 | 17 | 21 | 23..=28 | 32 => Some(0),
+        4..=6 | 11 | 29..=31 | 33 => Some(1),
+        3 => Some(2),
+        16 | 22 => Some(3),
+        14 | 18 | 20 => Some(6),
+        13 | 19 => Some(9),
+        _ => None,
     }
 }
 
 // How many strings it takes, the buffer among them.
-fn strings_of(call: u32) -> u32 {
+fn strings_of(call: u32) -> Option<u32> {
     match call {
-        2 => 0,
-        1 | 3..=6 | 10..=12 | 18 | 24 | 26..=31 => 1,
-        7..=9 | 13 | 15..=17 | 19 | 21..=23 | 25 | 33 => 2,
-        14 | 20 | 32 => 4,
-        _ => NONE,
+        2 => Some(0),
+        1 | 3..=6 | 10..=12 | 18 | 24 | 26..=31 => Some(1),
+        7..=9 | 13 | 15..=17 | 19 | 21..=23 | 25 | 33 => Some(2),
+        14 | 20 | 32 => Some(4),
+        _ => None,
     }
 }
 
@@ -60,22 +57,20 @@ fn fits(call: u32, frame: &[u8], numbers: usize) -> bool {
 // Whether the frame is a call, its buffer has no more than `bytes`, and a string of numbers no more than `numbers`.
 pub fn suits(frame: &[u8], bytes: usize, numbers: usize) -> bool {
     let call = call_of(frame);
-    if !frame::well_formed(frame, numbers_of(call), strings_of(call)) {
+    let (Some(takes), Some(strings)) = (numbers_of(call), strings_of(call)) else {
         return false;
-    }
-    let buffer = frame::string(frame, 0);
-    if bytes < buffer.len() {
-        return false;
-    }
-    fits(call, frame, numbers)
+    };
+    frame::well_formed(frame, takes, strings)
+        && frame::string(frame, 0).len() <= bytes
+        && fits(call, frame, numbers)
 }
 
 // Puts the buffer that the frame gives in place, and answers how long it is; where it gives none, the one that is there stays.
 pub fn load(frame: &[u8], buffer: &mut [u8], held: usize) -> usize
     ensures { result ≤ length buffer.new }
 {
-    if strings_of(call_of(frame)) == 0 || frame::is_kept(frame) {
-        return call_frames::least(held, buffer.len());
+    if strings_of(call_of(frame)) == Some(0) || frame::is_kept(frame) {
+        return held.min(buffer.len());
     }
     given::fill(buffer, frame::string(frame, 0))
 }

@@ -1,10 +1,10 @@
 // The adds of members given one by one.
 use crate::given;
 use call_frames::{answers, frame};
-use refusals::Answer;
+use refusals::Refusal;
 use ultra_building::members;
 
-fn platform(frame: &[u8], buf: &mut [u8]) -> Answer {
+fn platform(frame: &[u8], buf: &mut [u8]) -> Result<u32, Refusal> {
     members::add_platform(
         buf,
         frame::number(frame, 4) != 0,
@@ -20,7 +20,7 @@ fn platform(frame: &[u8], buf: &mut [u8]) -> Answer {
     )
 }
 
-fn kernel(frame: &[u8], buf: &mut [u8]) -> Answer {
+fn kernel(frame: &[u8], buf: &mut [u8]) -> Result<u32, Refusal> {
     members::add_kernel(
         buf,
         frame::number(frame, 0),
@@ -35,7 +35,7 @@ fn kernel(frame: &[u8], buf: &mut [u8]) -> Answer {
     )
 }
 
-fn module(frame: &[u8], buf: &mut [u8]) -> Answer {
+fn module(frame: &[u8], buf: &mut [u8]) -> Result<u32, Refusal> {
     members::add_module(
         buf,
         given::u32_at(frame, 0),
@@ -45,7 +45,7 @@ fn module(frame: &[u8], buf: &mut [u8]) -> Answer {
     )
 }
 
-fn add(call: u32, frame: &[u8], buf: &mut [u8]) -> Answer {
+fn add(call: u32, frame: &[u8], buf: &mut [u8]) -> Result<u32, Refusal> {
     match call {
         19 => platform(frame, buf),
         20 => kernel(frame, buf),

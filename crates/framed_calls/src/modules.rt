@@ -1,7 +1,4 @@
 // Several modules in one call: their records lie one after the other in a string.
-ghost use Rattle.std.specs.Prelude.{◌≤◌};
-
-use crate::given;
 use call_frames::{answers, frame};
 use ultra_format::ModuleRecord;
 
@@ -20,31 +17,21 @@ fn blank() -> ModuleRecord {
     }
 }
 
-// The record at `index`; a blank one where the bytes end before.
-fn module_in(bytes: &[u8], index: usize) -> ModuleRecord
-    requires { index ≤ 16 }
-{
-    let at = WIDTH * index;
-    if bytes.len() < at + WIDTH {
-        return blank();
-    }
-    let mut name = [0u8; 64];
-    given::fill(&mut name, &bytes[at + 24..]);
+fn module_in(bytes: &[u8; WIDTH]) -> ModuleRecord {
     ModuleRecord {
-        kind: (words::load_u64(bytes, at) % 4294967296) as u32,
-        name,
-        address: words::load_u64(bytes, at + 8),
-        size: words::load_u64(bytes, at + 16),
+        kind: (words::load_u64(bytes, 0) % 4294967296) as u32,
+        name: *bytes[24..].first_chunk().unwrap_or(&[0u8; 64]),
+        address: words::load_u64(bytes, 8),
+        size: words::load_u64(bytes, 16),
     }
 }
 
-fn modules_in(bytes: &[u8]) -> [ModuleRecord; 16] {
-    let none = blank();
-    let mut modules = [none; 16];
-    let mut i = 0;
-    while i < MOST {
-        modules[i] = module_in(bytes, i);
-        i += 1;
+// The whole records, and blank ones after them.
+fn modules_in(bytes: &[u8]) -> [ModuleRecord; MOST] {
+    let mut modules = [blank(); MOST];
+    let (whole, _) = bytes.as_chunks::<WIDTH>();
+    for (module, bytes) in modules.iter_mut().zip(whole) {
+        *module = module_in(bytes);
     }
     modules
 }
@@ -57,9 +44,8 @@ pub fn count(bytes: &[u8]) -> usize {
 // Makes call 25.
 pub fn make(frame: &[u8], buf: &mut [u8], out: &mut [u8]) -> u32 {
     let bytes = frame::string(frame, 1);
-    let modules = modules_in(bytes);
-    let n = call_frames::least(count(bytes), MOST);
-    let added = lent_modules::add_first(buf, modules, n);
+    let n = count(bytes).min(MOST);
+    let added = lent_modules::add_first(buf, modules_in(bytes), n);
     let answer = added.answer;
     answers::numbers(
         out,

@@ -1,6 +1,6 @@
 // The calls that are lent an output besides the buffer. The output lies where the frame gives it, which is its end.
 use call_frames::{answers, frame, reply};
-use refusals::Answer;
+use refusals::Refusal;
 
 // Makes call 7, whose output is numbers.
 pub fn copy_map(frame: &[u8], buf: &[u8], numbers: &mut [u64], out: &mut [u8]) -> u32 {
@@ -10,7 +10,7 @@ pub fn copy_map(frame: &[u8], buf: &[u8], numbers: &mut [u64], out: &mut [u8]) -
     reply::numbers_string(out, at, &numbers[0..n])
 }
 
-fn fill(call: u32, buf: &[u8], lent: &mut [u8]) -> Answer {
+fn fill(call: u32, buf: &[u8], lent: &mut [u8]) -> Result<u32, Refusal> {
     match call {
         8 => ultra_questions::copy_map_bytes(buf, lent),
         _ => ultra_listing::list(buf, lent),

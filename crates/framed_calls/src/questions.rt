@@ -1,17 +1,22 @@
 // The calls that change nothing, and hand back numbers or a part of what they are lent.
 use call_frames::{answers, frame, reply};
-use ultra_reading::{Cursor, Reading, Step};
+use ultra_reading::Cursor;
 
 fn read(buf: &[u8], out: &mut [u8]) -> u32 {
     let reading = ultra_reading::read(buf);
     match reading {
-        Reading::Accepted(version, used) => answers::numbers(
+        Ok(accepted) => answers::numbers(
             out,
             1,
-            &[0, used as u64, version.major as u64, version.minor as u64],
+            &[
+                0,
+                accepted.used as u64,
+                accepted.version.major as u64,
+                accepted.version.minor as u64,
+            ],
             buf,
         ),
-        Reading::Refused(refusal) => answers::numbers(
+        Err(refusal) => answers::numbers(
             out,
             1,
             &[refusal.number as u64, refusal.offset as u64, 0, 0],
@@ -33,7 +38,7 @@ fn step(frame: &[u8], buf: &[u8], out: &mut [u8]) -> u32 {
     };
     let step = cursor.step(buf);
     match step {
-        Step::Attribute(header, next) => answers::numbers(
+        Ok(Some((header, next))) => answers::numbers(
             out,
             3,
             &[
@@ -48,8 +53,8 @@ fn step(frame: &[u8], buf: &[u8], out: &mut [u8]) -> u32 {
             ],
             buf,
         ),
-        Step::End => answers::numbers(out, 3, &[0, 0, 0, 0, 0, 0, 0, 0], buf),
-        Step::Refused(refusal) => answers::numbers(
+        Ok(None) => answers::numbers(out, 3, &[0, 0, 0, 0, 0, 0, 0, 0], buf),
+        Err(refusal) => answers::numbers(
             out,
             3,
             &[

@@ -4,7 +4,7 @@
 ghost use Rattle.std.specs.Prelude.{◌≤◌, length};
 ghost use Rattle.listing_format.specs.Listing.{listing_most};
 
-use refusals::Answer;
+use refusals::Refusal;
 use std::io;
 
 // Prints the listing of `input`, which is made in `text`: no listing is longer (`ListingFits`), so none is refused.
@@ -12,7 +12,7 @@ fn print(rt: &impl Print, input: &[u8], text: &mut [u8]) -> io::Result<()>
     requires { listing_most ≤ length text.old }
 {
     let answer = ultra_listing::list(input, text);
-    let Answer::Done(length) = answer else {
+    let Ok(length) = answer else {
         return Ok(());
     };
     rt.write_all(&text[..length as usize])

@@ -3,8 +3,8 @@ use Rattle.std.proofs.Common.{◌∙◌, ap, sym}
 use Rattle.example_kernel.specs.Kernel.{value_or_none}
 use Rattle.example_kernel.proofs.copy_ranges.Goals as goal
 
-pub returns-in-Done : goal.returns-in-Done
-returns-in-Done c = ap value_or_none (sym c.in-Done.is ∙ ap (λ p. p.0) c.copy_map-answer.ensures)
+pub returns-in-Ok : goal.returns-in-Ok
+returns-in-Ok c = ap value_or_none (sym c.in-Ok.is ∙ ap (λ p. p.0) c.copy_map.ensures)
 
-pub returns-in-Refused : goal.returns-in-Refused
-returns-in-Refused c = ap value_or_none (sym c.in-Refused.is ∙ ap (λ p. p.0) c.copy_map-answer.ensures)
+pub returns-in-Err : goal.returns-in-Err
+returns-in-Err c = ap value_or_none (sym c.in-Err.is ∙ ap (λ p. p.0) c.copy_map.ensures)
