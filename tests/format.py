@@ -217,7 +217,7 @@ def name_problems(text, root):
             problems.append(f"no definition {file}.{name}, or its folder is not named")
     for item in sorted(set(re.findall(r"`(\w+(?:::\w+)+)`", text))):
         crate, *file, name = item.split("::")
-        if not has(rf"\bfn {name}\(", read(root, "crates", crate, "src", (file or ["lib"])[0] + ".rt")):
+        if not has(rf"\bfn {name}[(<]", read(root, "crates", crate, "src", (file or ["lib"])[0] + ".rt")):
             problems.append(f"no function {item}")
     proofs = re.findall(r"`([\w-]+)`,\s(crates/[\w/]+\.antt)", text)
     return problems + [f"no {name} in {path}" for name, path in proofs if f"pub {name} :" not in read(root, path)]

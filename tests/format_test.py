@@ -110,7 +110,7 @@ class Tables(Case):
         self.wrong("`cases_reading: module at 4096` is refused as None", "module at 2048", "module at 4096")
         self.wrong("no definition Members.bits_suit", "`Members.framebuffer_values`", "`Members.bits_suit`")
         self.wrong("no definition Ranges.page_aligned", "crates/address_ranges/specs", "crates/ranges/specs")
-        self.wrong("no function ultra_map::ends_by", "`ultra_map::ends_by_next`", "`ultra_map::ends_by`")
+        self.wrong("no function ultra_map::one_pass::settled", "`ultra_map::one_pass::is_settled`", "`ultra_map::one_pass::settled`")
         self.wrong("no reads_all in crates/ultra_acceptance/proofs/Acceptance.antt", "`reads_exactly`", "`reads_all`")
 
 

@@ -3,7 +3,7 @@
 
 usage: page_names.py [ROOT]     ROOT is the repository's folder
 
-On README.md, docs/*.md and the README.md of tests, samples and crates; not on docs/CHANGES.md and docs/PORT.md, which name what is gone too:
+On README.md, docs/*.md and the README.md of tests, samples and crates; not on docs/CHANGES.md, docs/PORT.md and docs/DESIGN-PASS.md, which name what is gone too:
     targets       `make X`, in backticks or as a line of a block, names a target, and so does every backtick in a column "Test".
     names         A word in backticks, and any word with an underscore, is a name that some file gives: a crate, a function, a definition,
                   a theorem, a target, a sample. `cases_*` stands for names that begin so.
@@ -28,11 +28,11 @@ import short_names
 from readme import FENCE, README, found, prose, read
 
 PAGES = (README, "docs/*.md", "tests/README.md", "samples/README.md", "crates/*/README.md")
-HISTORY = ("docs/CHANGES.md", "docs/PORT.md")
+HISTORY = ("docs/CHANGES.md", "docs/PORT.md", "docs/DESIGN-PASS.md")
 PROMISES, CALLS, HEADER, LISTING = "docs/PROMISES.md", "docs/CALLS.md", "include/ultra.h", "samples/listing.txt"
 QUOTES, NUMBERS = "crates/refusals/specs/Refusals.antt", "crates/refusals/src/lib.rt"
 # Words in backticks that no file here gives: of the languages, of tools, of the listing, of an example's contract.
-FOREIGN = set("requires ensures pub const type rt strlen black_box GLIBC_TUNABLES ultra-list cmdline half r result len".split())
+FOREIGN = set("requires ensures pub const type rt Result Option strlen black_box GLIBC_TUNABLES ultra-list cmdline half r result len".split())
 # What stands for any name, in a path.
 ANY = re.compile(r"\b(?:NAME|LABEL|FUNCTION)")
 FILE = re.compile(r"(?<![\w.-])(?:[\w-]+/)*[\w-]+\.(?:antt|rt|rs|py|mk|sh|c|h|md|bin|txt|edit)\b")

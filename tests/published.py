@@ -274,9 +274,21 @@ def parameters_of(text):
         yield found[1] or found[3], kind.startswith("&"), bool(re.match(r"&\s*(?:'\w+\s+)?mut\b", kind))
 
 
+def after_result(text, at):
+    """Where the heading goes on after the result's type, which may have blanks within brackets."""
+    found = re.compile(r"\s*->\s*(?:&'\w+\s+)?").match(text, at)
+    if not found:
+        return at
+    at, depth = found.end(), 0
+    while at < len(text) and (depth or not text[at].isspace()):
+        depth += (text[at] in "<([") - (text[at] in ">)]")
+        at += 1
+    return at
+
+
 def clauses_of(text, at):
     """(kind, text) of each clause, after the parameters and the result, up to the body."""
-    at = re.compile(r"(?:\s*->\s*(?:&'\w+\s+)?\S+)?").match(text, at).end()
+    at = after_result(text, at)
     clauses = []
     while True:
         found = re.compile(r"\s*(\w*\*?)(?: +\w+)?\s*(?=\{)").match(text, at)

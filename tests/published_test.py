@@ -44,11 +44,11 @@ FILES = {
 
 | Call | Source | Its answer is |
 |---|---|---|
-| `making::begin(buf) -> Answer` | making, src/lib.rt | `begun`, with the buffer |
+| `making::begin(buf) -> Result<u32, Refusal>` | making, src/lib.rt | `begun`, with the buffer |
 | `making::add_module`, `add_line` | making, src/adds.rt | `added` of `add_module given` .. |
 | `making::members::add_module`, `add_line` | adding, src/members.rt | `added_members`: one by one |
 | `Cursor::first() -> Cursor` | asking, src/cursor.rt | `cursor_at`: index 0, offset 8 |
-| `Cursor::step(self, buf) -> Step` | the same | `step_of` |
+| `Cursor::step(self, buf) -> Result<Option<(Header, Cursor)>, Refusal>` | the same | `step_of` |
 | `asking::copy(buf, out: &mut [u8]) -> Answer` | asking, src/lib.rt | `copied_to`, with the output |
 | `asking::part(buf, index) -> &[u8]` | the same | `PartHandedBack`: the part that `looked` names |
 | `asking::line(buf, board) -> &[u8]` | the same | `LineHandedBack`: the line, or the board's text |
@@ -218,7 +218,7 @@ pub use adds::add_line;
 pub use adding::members;
 pub use adds::add_module;
 
-pub fn begin(buf: &mut [u8]) -> Answer
+pub fn begin(buf: &mut [u8]) -> Result<u32, Refusal>
     ensures { (result, buf.new) ≡ begun buf.old }
 {
     Answer::Done(8)
@@ -349,7 +349,7 @@ impl Cursor {
         Self
     }
 
-    pub fn step(self, buf: &[u8]) -> Step
+    pub fn step(self, buf: &[u8]) -> Result<Option<(Header, Cursor)>, Refusal>
         ensures { result ≡ step_of buf.now self }
     {
         Step::End
