@@ -12,6 +12,10 @@ failed {r} e n = sym e ∙ not-true r n
 pub held : {r t : Bool} → r ≡ t → not r ≡ false → t ≡ true
 held {r} e n = sym e ∙ not-false r n
 
+-- a test says the same of equal numbers (of two: `ap₂`)
+pub ap₄ : (f : ℕ → ℕ → ℕ → ℕ → Bool) {a b c d w x y z : ℕ} → a ≡ w → b ≡ x → c ≡ y → d ≡ z → f a b c d ≡ f w x y z
+ap₄ f p q r s = λ i. f (p i) (q i) (r i) (s i)
+
 agrees : (t : Bool) (a b x y : ℕ) → leb a b ≡ t → (a ≤ b → x ≤ y) → (b < a → y < x) → t ≡ leb x y
 agrees true a b x y e f g = sym (le-leb x y (f (leb-true a b e)))
 agrees false a b x y e f g = sym (lt-leb x y (g (leb-false a b e)))
