@@ -6,7 +6,8 @@ use native.Mathlib.Omega.{arith}
 use native.Mathlib.Nat.{not-suc-le-zero, le_of_suc-le-suc, add-zero}
 use native.Mathlib.Numerals.{add-one}
 use lib.ListN.{length, take, drop, get_or, set, replicate, drop_of_length-le}
-use lib.Seq.{drop-cons, set_at, append_snoc}
+use lib.Seq.{drop-cons, set_at, append_snoc, take-length}
+use Rattle.std.proofs.lemmas.Grind.{common_steps}
 use Rattle.byte_layout.specs.Fields.{padded}
 use Rattle.byte_layout.specs.Stored.{up_to_zero, bytes_at, text_at, over}
 
@@ -43,6 +44,17 @@ unfolding bytes_at
 bytes_taken b o zero h = refl
 bytes_taken b o (suc n) h =
     rw (drop-cons b o 0 (omega arith)) (ap (λ (l : List ℕ). get_or b o 0 ∷ l) (rw (← (add-one o)) (bytes_taken b (o + 1) n (omega arith))))
+
+-- all bytes
+pub bytes_all : (b : List ℕ) → bytes_at b 0 (length b) ≡ b
+bytes_all b = sym (bytes_taken b 0 (length b) (omega arith)) ∙ take-length b
+
+-- where a loop has stored them all
+pub all_stored : (b d e : List ℕ) (i : ℕ) → i ≡ length b → length e ≡ i → d ≡ bytes_at b 0 i ++ drop i e → d ≡ b
+all_stored b d e i l m h = let k : length e ≤ length b = omega arith in rw (l, bytes_all b, drop_of_length-le e k, append-nil) at h
+
+-- a loop that copies bytes to the front of a part
+pub ruleset copying = (common_steps, bytes_more, front_more, length_stored)
 
 -- ---- texts
 until : (b : List ℕ) (o x : ℕ) (l : List ℕ) → get_or b o 0 ≡ x → bytes_at b (o + 1) (length l) ≡ l → bytes_at b o (length (up_to_zero x l)) ≡ up_to_zero x l

@@ -18,12 +18,14 @@ pub fn text_length(bytes: &[u8], at: usize, width: usize) -> usize
 }
 
 // Copies the `n` bytes from `at` on to the front of `out`; what is after them stays.
-#[tactic(auto, using(crate::proofs::Copies::bytes_taken))]
+#[tactic(auto, using(crate::proofs::Copies::copying), unfolding(crate::specs::Stored::bytes_at))]
 pub fn copy(bytes: &[u8], at: usize, n: usize, out: &mut [u8])
     requires { (at + n ≤ length bytes.now) × (n ≤ length out.old) }
     ensures { out.new ≡ over (bytes_at bytes.now at n) out.old }
 {
-    out[..n].copy_from_slice(&bytes[at..at + n]);
+    for (i, byte) in out[..n].iter_mut().enumerate() {
+        *byte = bytes[at + i];
+    }
 }
 
 // Copies the text in a field as wide as `out`, from `at` on, to the front of `out`; what is after it stays.
@@ -37,11 +39,14 @@ pub fn copy_text(bytes: &[u8], at: usize, out: &mut [u8])
 }
 
 // Stores the bytes from `at` on; what is before and after them stays.
+#[tactic(auto, using(crate::proofs::Copies::copying), unfolding(crate::specs::Stored::bytes_at))]
 pub fn store(bytes: &[u8], out: &mut [u8], at: usize)
     requires { at + length bytes.now ≤ length out.old }
     ensures { out.new ≡ replaced out.old at (length bytes.now) bytes.now }
 {
-    out[at..at + bytes.len()].copy_from_slice(bytes);
+    for (i, byte) in out[at..at + bytes.len()].iter_mut().enumerate() {
+        *byte = bytes[i];
+    }
 }
 
 // Stores `n` zeros from `at` on.
