@@ -89,11 +89,11 @@ pub fn string(frame: &[u8], index: u32) -> &[u8] {
 pub fn load_numbers(bytes: &[u8], numbers: &mut [u64]) -> usize
     ensures { result ≤ length numbers.new }
 {
-    let (whole, _) = bytes.as_chunks::<8>();
-    for (number, bytes) in numbers.iter_mut().zip(whole) {
-        *number = u64::from_le_bytes(*bytes);
+    let n = (bytes.len() / 8).min(numbers.len());
+    for (i, number) in numbers[..n].iter_mut().enumerate() {
+        *number = words::load_u64(bytes, 8 * i);
     }
-    whole.len().min(numbers.len())
+    n
 }
 
 // Whether the frame has that many numbers and strings, and nothing else.

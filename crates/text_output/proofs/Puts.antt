@@ -1,20 +1,25 @@
 -- Laws of putting bytes one after the other.
-use Prim.Native.Nat.{ℕ, min, ◌+◌, ◌-◌, ◌≤◌, ◌<◌}
+use Prim.Native.Nat.{ℕ, ◌+◌, ◌-◌, ◌≤◌, ◌<◌}
 use mathlib.Core.Path.{◌≡◌, refl, sym, ◌∙◌}
 use mathlib.Core.List.{List, [], ◌∷◌, ◌++◌, append_assoc, append-nil}
 use native.Mathlib.Omega.{arith}
-use lib.ListN.{length, take, drop, get_or}
-use Rattle.std.proofs.lemmas.Bool.Decides.{nat_tests}
+use lib.ListN.{length, take, drop, get_or, set}
+use lib.Seq.{set_out}
 use Rattle.std.proofs.lemmas.List.{take_more, take_all}
 use Rattle.byte_layout.specs.Stored.{bytes_at}
 use Rattle.byte_layout.proofs.Copies.{bytes_taken}
 use Rattle.text_output.specs.Output.{State, next, put, puts}
 use Rattle.text_output.specs.Spelling.{each, decimal, after, joined}
 
--- the place after one stays at the last that has 32 bits
-pub next_place : (n : ℕ) → n < 4294967296 → min (n + 1) 4294967295 ≡ next n
-unfolding next
-next_place n h = grind (arith, nat_tests)
+-- a byte past the end is counted, any other is put
+module _ (out : List ℕ) (to x r : ℕ) (e : r ≡ next to) where
+  pub put_past : length out ≤ to → (out, r) ≡ put (out, to) x
+  unfolding put
+  put_past h = rw (set_out out to x h, e)
+
+  pub put_within : (set out to x, r) ≡ put (out, to) x
+  unfolding put
+  put_within = rw e
 
 pub puts_none : (s : State) → puts s [] ≡ s
 unfolding puts

@@ -1,16 +1,24 @@
 // Bytes into a lent output.
 ghost use Rattle.std.specs.Prelude.{◌≡◌};
-ghost use Rattle.text_output.specs.Output.{put, puts};
+ghost use Rattle.text_output.specs.Output.{next, put, puts};
 
-// One byte; past the end it is only counted, so that an empty output measures. The place stays at the last.
+// The place after one: it stays at the last.
+fn next(at: u32) -> u32
+    ensures { result ≡ next at }
+{
+    if at < 4294967295 { at + 1 } else { at }
+}
+
+// One byte; past the end it is only counted, so that an empty output measures.
 pub fn put(out: &mut [u8], to: u32, byte: u8) -> u32
     ensures { (out.new, result) ≡ put (out.old, to) byte }
 {
     let at = to as usize;
-    if at < out.len() {
-        out[at] = byte;
+    if out.len() <= at {
+        return next(to);
     }
-    to.saturating_add(1)
+    out[at] = byte;
+    next(to)
 }
 
 // The bytes as they are.
