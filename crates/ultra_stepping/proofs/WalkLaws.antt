@@ -65,9 +65,9 @@ module _ (b : List ℕ) (t i n : ℕ) where
 -- ---- a walk that has come to attribute i, of n that are in bounds, and the laws that its loop goes by
 module _ (b : List ℕ) (n i : ℕ) (h : InBounds b n) (l : i < n) where
   pub header_in : start b i + 8 ≤ length b
-  header_in = (bounds_hold b (length b) (start b i) (h i l)).header
+  header_in = (reached b (length b) i (start b i) refl (h i l)).header
 
   pub body_in : start b i + u32_at b (start b i + 4) ≤ length b
-  body_in = (bounds_hold b (length b) (start b i) (h i l)).within
+  body_in = (reached b (length b) i (start b i) refl (h i l)).within
 
 pub ruleset walk = (common_steps, start_first, start_next, header_in, body_in, first_here, first_next, first_none)
