@@ -3,7 +3,7 @@ use Rattle.std.specs.Prelude.{⊤, Result, Ok, Err}
 use Rattle.std.specs.Result.{IsErrAnd}
 use Rattle.std.proofs.lemmas.Result.{err_from_is_err_and}
 use Prim.Native.Nat.{ℕ, zero, suc}
-use mathlib.Core.Path.{◌≡◌, refl, sym, ap, ◌∙◌}
+use mathlib.Core.Path.{◌≡◌, refl, ap, ◌∙◌}
 use mathlib.Core.Bool.{Bool, true, false, ◌&&◌}
 use native.Mathlib.Omega.{arith}
 use Rattle.refusals.specs.Refusals.{unless, first_of}
@@ -39,9 +39,6 @@ unbroken (suc k) e = absurd (let z : ◌≡◌ {A = ℕ} 0 1 = cc in omega arith
 pub number_checked : (k : ℕ) → number_in (checked k) ≡ k
 number_checked zero = refl
 number_checked (suc k) = refl
-
-pub is_checked : {r : Result ⊤ ℕ} (k : ℕ) → r ≡ checked k → r ≡ checked (number_in r)
-is_checked k e = e ∙ ap checked (sym (ap number_in e ∙ number_checked k))
 
 -- what a `?` hands back of an error
 pub passed_on : {T E : Type 0} (r : Result T E) {e : E} → IsErrAnd r (λ x. x ≡ e) → r ≡ Err e

@@ -11,12 +11,21 @@ ghost use Rattle.ultra_appending.specs.Appending.{append_check, append_offset, c
 use refusals::Refusal;
 use ultra_layout::head;
 
+// What the members answer by themselves; `Err(0)` names no number, and counts as nothing broken.
+fn judged(given: Result<(), u16>) -> Result<(), u16>
+    ensures { result ≡ checked (number_in given) }
+{
+    match given {
+        Err(0) => Ok(()),
+        other => other,
+    }
+}
+
 // The first of 17, 9 to 16 and 18 that an attribute of type `kind` and of `size` bytes breaks at the used length `used`; `given` is what its
 // members answer by themselves: the first of 12 to 16 that they break.
 fn check(buf: &[u8], used: u32, kind: u32, given: Result<(), u16>, size: usize) -> Result<(), u16>
     requires buf_value { used_length 0 buf.now ≡ Ok used }
     requires le_kind { 1 ≤ kind }
-    requires given_value { given ≡ checked (number_in given) }
     ensures { result ≡ checked (append_check (types_before buf.now (stored_count buf.now)) (room_of buf.now) used kind (number_in given) size) }
 {
     let count = words::load_u32(buf, head::COUNT);
@@ -24,7 +33,7 @@ fn check(buf: &[u8], used: u32, kind: u32, given: Result<(), u16>, size: usize) 
         return Err(refusals::FULL);
     }
     ultra_reading::next_place_check(buf, count, kind)?;
-    given?;
+    judged(given)?;
     if lent_buffers::room(buf) - (used as usize) < size {
         return Err(refusals::ROOM);
     }
@@ -34,7 +43,6 @@ fn check(buf: &[u8], used: u32, kind: u32, given: Result<(), u16>, size: usize) 
 // The offset where the attribute goes, or the refusal: that of reading first.
 fn offset(buf: &[u8], kind: u32, given: Result<(), u16>, size: usize) -> Result<u32, Refusal>
     requires le_kind { 1 ≤ kind }
-    requires given_value { given ≡ checked (number_in given) }
     ensures { result ≡ append_offset buf.now kind (number_in given) size }
 {
     let answer = ultra_reading::used_length(buf, 0);
@@ -55,7 +63,6 @@ pub fn raise_count(
     size: usize,
 ) -> Result<u32, Refusal>
     requires le_kind { 1 ≤ kind }
-    requires given_value { given ≡ checked (number_in given) }
     ensures { (result, buf.new) ≡ count_raised buf.old kind (number_in given) size }
 {
     let used = offset(buf, kind, given, size)?;

@@ -5,7 +5,7 @@ use native.Mathlib.Omega.{arith}
 use Rattle.ultra_format.specs.Contexts.{Body}
 use Rattle.ultra_format.specs.Additions.{body_given, Addition.add_command_line}
 use Rattle.ultra_adding.proofs.Adding.{Adds, adds}
-use Rattle.refusals.proofs.Chains.{passed_on, is_checked}
+use Rattle.refusals.proofs.Chains.{passed_on}
 use Rattle.ultra_adding.proofs.add_command_line.Goals as goal
 use Rattle.ultra_adding.proofs.add_command_line.Goals.{After-raise_count}
 
@@ -15,9 +15,6 @@ body c = body_given (add_command_line c.args.text.now)
 add : (c : After-raise_count) → Adds c.args.buf.now c.raise_count.new.buf true (body c) c.raise_count.result c.size-size.result
 unfolding body_given
 add c = adds c.raise_count.ensures refl c.check-judged.ensures c.size-size.ensures
-
-pub raise_count-requires-clause-given_value : goal.raise_count-requires-clause-given_value
-raise_count-requires-clause-given_value c = is_checked _ c.check-judged.ensures
 
 pub returns-in_err-used : goal.returns-in_err-used
 returns-in_err-used c = (add (goal.at.returns-in_err-used c).After-raise_count).refused c.in_err-used.was (passed_on _ c.from_residual.ensures.1)

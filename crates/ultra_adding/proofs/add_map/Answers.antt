@@ -4,7 +4,7 @@ use native.Mathlib.Omega.{arith}
 use borrow.Author.Tests.{eqb-true}
 use Rattle.ultra_format.specs.Additions.{Addition, formed, body_given, Addition.add_map}
 use Rattle.ultra_adding.proofs.Adding.{Adds, adds}
-use Rattle.refusals.proofs.Chains.{passed_on, is_checked}
+use Rattle.refusals.proofs.Chains.{passed_on}
 use Rattle.ultra_adding.proofs.add_map.Goals as goal
 use Rattle.ultra_adding.proofs.add_map.Goals.{After-raise_count}
 
@@ -14,9 +14,6 @@ map c = add_map c.args.numbers.now
 add : (c : After-raise_count) → Adds c.args.buf.now c.raise_count.new.buf (formed (map c)) (body_given (map c)) c.raise_count.result c.size-size.result
 unfolding body_given
 add c = adds c.raise_count.ensures refl c.check-judged.ensures c.size-size.ensures
-
-pub raise_count-requires-clause-given_value : goal.raise_count-requires-clause-given_value
-raise_count-requires-clause-given_value c = is_checked _ c.check-judged.ensures
 
 pub returns-in_err-used : goal.returns-in_err-used
 returns-in_err-used c = (add (goal.at.returns-in_err-used c).After-raise_count).refused c.in_err-used.was (passed_on _ c.from_residual.ensures.1)

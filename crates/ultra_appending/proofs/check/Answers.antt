@@ -1,5 +1,4 @@
 -- `ultra_appending::check` meets its contract: each return from the tests that lead there.
-use Rattle.std.specs.Prelude.{Ok, Err}
 use Prim.Native.Nat.{ℕ, ◌≤◌, ◌<◌}
 use mathlib.Core.Path.{◌≡◌, sym, ap, ◌∙◌}
 use native.Mathlib.Omega.{arith}
@@ -12,7 +11,7 @@ use Rattle.ultra_format.specs.Decoding.{stored_count, types_before}
 use Rattle.ultra_places.proofs.PlaceLaws.{length_types}
 use Rattle.ultra_appending.proofs.Appending.{Read, was_read, stop_full, stop_place, stop_given, stop_room, pass}
 use Rattle.ultra_appending.proofs.check.Goals as goal
-use Rattle.ultra_appending.proofs.check.Goals.{After-next_place_check, In_ok-next_place_check, In_ok-given, Start}
+use Rattle.ultra_appending.proofs.check.Goals.{After-next_place_check, In_ok-next_place_check, In_ok-judged, Start}
 
 read : (s : Start) → Read s.args.buf.now s.args.used
 read s = was_read _ _ s.requires.buf_value
@@ -46,8 +45,8 @@ found c =
     unbroken _ (sym placed' ∙ c.in_ok-next_place_check.was)
 
 -- past the members' own
-sound : (c : In_ok-given) → number_in c.args.given ≡ 0
-sound c = ap number_in c.in_ok-given.was
+sound : (c : In_ok-judged) → number_in c.args.given ≡ 0
+sound c = unbroken _ (sym c.in_ok-judged.ensures)
 
 -- the room that is left
 left : (c : Start) → c.args.used ≤ room_of c.args.buf.now
@@ -67,19 +66,19 @@ returns-in_err-next_place_check c =
     let e = sym (placed (goal.at.returns-in_err-next_place_check c).After-next_place_check) ∙ c.in_err-next_place_check.was in
     passed_on _ c.from_residual.ensures.1 ∙ sym e ∙ ap checked (stop_place _ _ _ _ _ _ (few (goal.at.returns-in_err-next_place_check c).After-next_place_check) (broken _ _ e).1)
 
-pub returns-in_err-given : goal.returns-in_err-given
-returns-in_err-given c =
-    let e = sym c.requires.given_value ∙ c.in_err-given.was in
-    passed_on _ c.from_residual-in_err-given.ensures.1 ∙ sym e
-    ∙ ap checked (stop_given _ _ _ _ _ _ (few (goal.at.returns-in_err-given c).After-next_place_check) (found (goal.at.returns-in_err-given c).In_ok-next_place_check) (broken _ _ e).1)
+pub returns-in_err-judged : goal.returns-in_err-judged
+returns-in_err-judged c =
+    let e = sym c.judged.ensures ∙ c.in_err-judged.was in
+    passed_on _ c.from_residual-in_err-judged.ensures.1 ∙ sym e
+    ∙ ap checked (stop_given _ _ _ _ _ _ (few (goal.at.returns-in_err-judged c).After-next_place_check) (found (goal.at.returns-in_err-judged c).In_ok-next_place_check) (broken _ _ e).1)
 
 pub overflow_sub-room : goal.overflow_sub-room
 overflow_sub-room c = omega (arith, left (goal.at.overflow_sub-room c).Start, c.room.ensures)
 
 pub returns-then-room-used : goal.returns-then-room-used
 returns-then-room-used c =
-    ap checked (stop_room _ _ _ _ _ _ (few (goal.at.returns-then-room-used c).After-next_place_check) (found (goal.at.returns-then-room-used c).In_ok-next_place_check) (sound (goal.at.returns-then-room-used c).In_ok-given) (omega (arith, left (goal.at.returns-then-room-used c).Start, c.room.ensures)))
+    ap checked (stop_room _ _ _ _ _ _ (few (goal.at.returns-then-room-used c).After-next_place_check) (found (goal.at.returns-then-room-used c).In_ok-next_place_check) (sound (goal.at.returns-then-room-used c).In_ok-judged) (omega (arith, left (goal.at.returns-then-room-used c).Start, c.room.ensures)))
 
 pub returns : goal.returns
 returns c =
-    ap checked (pass _ _ _ _ _ _ (few (goal.at.returns c).After-next_place_check) (found (goal.at.returns c).In_ok-next_place_check) (sound (goal.at.returns c).In_ok-given) (omega (arith, left (goal.at.returns c).Start, c.room.ensures)))
+    ap checked (pass _ _ _ _ _ _ (few (goal.at.returns c).After-next_place_check) (found (goal.at.returns c).In_ok-next_place_check) (sound (goal.at.returns c).In_ok-judged) (omega (arith, left (goal.at.returns c).Start, c.room.ensures)))

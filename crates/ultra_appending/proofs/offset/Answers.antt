@@ -15,7 +15,7 @@ pub returns-in_default : goal.returns-in_default
 returns-in_default c = unread _ _ _ _ _ _ c.used_length-answer.ensures c.in_default.is
 
 pub check-requires : goal.check-requires
-check-requires c = record { buf_value = was (goal.at.check-requires c).In-Ok; le_kind = c.requires.le_kind; given_value = c.requires.given_value }
+check-requires c = record { buf_value = was (goal.at.check-requires c).In-Ok; le_kind = c.requires.le_kind }
 
 pub returns-in-Err : goal.returns-in-Err
 returns-in-Err c =

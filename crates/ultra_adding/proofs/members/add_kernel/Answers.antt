@@ -8,7 +8,7 @@ use Rattle.ultra_format.specs.Additions.{kernel_of, guids_formed}
 use Rattle.ultra_arguments.proofs.Judged.{judged}
 use Rattle.ultra_adding.proofs.GivenMembers.{path_short, guids_wide}
 use Rattle.ultra_adding.proofs.Adding.{Adds, adds}
-use Rattle.refusals.proofs.Chains.{passed_on, is_checked}
+use Rattle.refusals.proofs.Chains.{passed_on}
 use Rattle.refusals.specs.Answers.{checked}
 use Rattle.ultra_adding.proofs.members.add_kernel.Goals as goal
 use Rattle.ultra_adding.proofs.members.add_kernel.Goals.{After-raise_count}
@@ -20,9 +20,6 @@ add : (c : After-raise_count)
     → Adds c.args.buf.now c.raise_count.new.buf (guids_formed c.args.disk.now c.args.partition.now) (body c) c.raise_count.result 336
 unfolding written_size size_suits values texts ranges ordered
 add c = adds c.raise_count.ensures refl (c.check-judged.ensures ∙ ap checked (judged _ (body c) refl refl refl refl refl)) refl
-
-pub raise_count-requires-clause-given_value : goal.raise_count-requires-clause-given_value
-raise_count-requires-clause-given_value c = is_checked _ c.check-judged.ensures
 
 pub returns-in_err-used : goal.returns-in_err-used
 returns-in_err-used c = (add (goal.at.returns-in_err-used c).After-raise_count).refused c.in_err-used.was (passed_on _ c.from_residual.ensures.1)

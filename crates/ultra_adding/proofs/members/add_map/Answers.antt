@@ -8,7 +8,7 @@ use lib.ListN.{length}
 use Rattle.ultra_format.specs.Additions.{map_of, map_formed}
 use Rattle.ultra_format.proofs.Numbers.{map_given_size}
 use Rattle.ultra_adding.proofs.Adding.{Adds, adds}
-use Rattle.refusals.proofs.Chains.{passed_on, is_checked}
+use Rattle.refusals.proofs.Chains.{passed_on}
 use Rattle.ultra_adding.proofs.members.add_map.Goals as goal
 use Rattle.ultra_adding.proofs.members.add_map.Goals.{After-raise_count}
 
@@ -17,9 +17,6 @@ bytes c = c.args.entries.now
 
 add : (c : After-raise_count) → Adds c.args.buf.now c.raise_count.new.buf (map_formed (bytes c)) (map_of (bytes c)) c.raise_count.result (8 + length (bytes c) / 24 * 24)
 add c = adds c.raise_count.ensures refl c.bytes_check-judged.ensures (omega (arith, map_given_size (bytes c)))
-
-pub raise_count-requires-clause-given_value : goal.raise_count-requires-clause-given_value
-raise_count-requires-clause-given_value c = is_checked _ c.bytes_check-judged.ensures
 
 pub returns-in_err-used : goal.returns-in_err-used
 returns-in_err-used c = (add (goal.at.returns-in_err-used c).After-raise_count).refused c.in_err-used.was (passed_on _ c.from_residual.ensures.1)

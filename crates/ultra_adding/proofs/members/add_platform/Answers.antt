@@ -8,7 +8,7 @@ use Rattle.ultra_format.specs.Additions.{platform_of}
 use Rattle.ultra_arguments.proofs.Judged.{judged}
 use Rattle.ultra_adding.proofs.GivenMembers.{name_short}
 use Rattle.ultra_adding.proofs.Adding.{Adds, adds}
-use Rattle.refusals.proofs.Chains.{passed_on, is_checked}
+use Rattle.refusals.proofs.Chains.{passed_on}
 use Rattle.refusals.specs.Answers.{checked}
 use Rattle.ultra_adding.proofs.members.add_platform.Goals as goal
 use Rattle.ultra_adding.proofs.members.add_platform.Goals.{After-raise_count}
@@ -19,9 +19,6 @@ body c = platform_of c.args.kind c.args.major c.args.minor c.args.name.now c.arg
 add : (c : After-raise_count) → Adds c.args.buf.now c.raise_count.new.buf c.args.complete (body c) c.raise_count.result 88
 unfolding written_size size_suits values texts ranges ordered
 add c = adds c.raise_count.ensures refl (c.check-judged.ensures ∙ ap checked (judged _ (body c) refl refl refl refl refl)) refl
-
-pub raise_count-requires-clause-given_value : goal.raise_count-requires-clause-given_value
-raise_count-requires-clause-given_value c = is_checked _ c.check-judged.ensures
 
 pub returns-in_err-used : goal.returns-in_err-used
 returns-in_err-used c = (add (goal.at.returns-in_err-used c).After-raise_count).refused c.in_err-used.was (passed_on _ c.from_residual.ensures.1)
