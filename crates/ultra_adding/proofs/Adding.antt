@@ -42,7 +42,7 @@ pub record Adds (b q : List ℕ) (f : Bool) (x : Body) (a : Answer) (size : ℕ)
   pub space : {n : ℕ} → a ≡ Ok n → Space q n size
   pub holds : {n : ℕ} → a ≡ Ok n → (f ≡ true) × BodyHolds (written_size x) x
   -- a refusal is passed on, and changes nothing
-  pub refused : {r : Refusal} {p : Answer} → a ≡ Err r → p ≡ Err r → (p, q) ≡ added_members b f x
+  pub refused : {r : Refusal} → a ≡ Err r → (a, q) ≡ added_members b f x
   -- the part from the offset on was lent, and came back with the attribute over its front
   pub written : {p : List ℕ} {n : ℕ} → a ≡ Ok n → p ≡ over (new_bytes x) (take (length q - n) (drop n q))
       → (Ok (n + size), take n q ++ (p ++ drop (length q - n) (drop n q))) ≡ added_members b f x
@@ -68,7 +68,7 @@ adds {b} {q} {f} {x} {t} {size} {r} {a} e kind said wide =
           let s = p.1.within in
           record { within = omega arith; small = omega arith };
       holds = λ {n} i. given_holds f x (appended_at b (type_of x) (given_check f x) (written_size x) n (at n i).0).1.sound;
-      refused = λ {r} {p} i h. let k = kept b (type_of x) (given_check f x) (written_size x) q a for r i in rw (h, k.0, k.1);
+      refused = λ {r} i. let k = kept b (type_of x) (given_check f x) (written_size x) q a for r i in rw (i, k.0, k.1);
       written = λ {p} {n} i w. let o = at n i in
           rw o.0 (λ j. (Ok (n + wide j), (spliced q p (new_bytes x) n w ∙ (λ m. replaced (o.1 m) n (length (new_bytes x)) (new_bytes x))) j));
     }

@@ -19,7 +19,10 @@ pub fn add_map(buf: &mut [u8], numbers: &[u64]) -> Result<u32, Refusal>
 {
     let judged = ultra_arguments::map::check(numbers);
     let size = ultra_writing::map::size(numbers);
-    let used = raise_count(buf, types::MEMORY_MAP, judged, size)?;
+    let answer = raise_count(buf, types::MEMORY_MAP, judged, size);
+    let Ok(used) = answer else {
+        return answer;
+    };
     ultra_writing::map::write(&mut buf[used as usize..], numbers);
     Ok(used + size as u32)
 }
@@ -30,7 +33,10 @@ pub fn add_command_line(buf: &mut [u8], text: &[u8]) -> Result<u32, Refusal>
 {
     let judged = ultra_arguments::command_line::check(text);
     let size = ultra_writing::command_line::size(text);
-    let used = raise_count(buf, types::COMMAND_LINE, judged, size)?;
+    let answer = raise_count(buf, types::COMMAND_LINE, judged, size);
+    let Ok(used) = answer else {
+        return answer;
+    };
     ultra_writing::command_line::write(&mut buf[used as usize..], text);
     Ok(used + size as u32)
 }
@@ -40,12 +46,15 @@ pub fn add_framebuffer(buf: &mut [u8], given: FramebufferRecord) -> Result<u32, 
     ensures { (result, buf.new) ≡ added buf.old (Addition.add_framebuffer given) }
 {
     let judged = ultra_arguments::framebuffer::check(given);
-    let used = raise_count(
+    let answer = raise_count(
         buf,
         types::FRAMEBUFFER,
         judged,
         framebuffer::LEAST_SIZE as usize,
-    )?;
+    );
+    let Ok(used) = answer else {
+        return answer;
+    };
     ultra_writing::framebuffer::write(&mut buf[used as usize..], given);
     Ok(used + framebuffer::LEAST_SIZE)
 }

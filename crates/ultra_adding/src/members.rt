@@ -25,7 +25,10 @@ pub fn add_platform(
     ensures { (result, buf.new) ≡ added_members buf.old complete (platform_of kind major minor name.now rsdp base depth dtb smbios) }
 {
     let judged = ultra_arguments::platform::check(complete, kind, name);
-    let used = raise_count(buf, types::PLATFORM, judged, platform::FULL_SIZE as usize)?;
+    let answer = raise_count(buf, types::PLATFORM, judged, platform::FULL_SIZE as usize);
+    let Ok(used) = answer else {
+        return answer;
+    };
     ultra_writing::platform::write(
         &mut buf[used as usize..],
         kind,
@@ -65,7 +68,10 @@ pub fn add_kernel(
         partition,
         path,
     );
-    let used = raise_count(buf, types::KERNEL, judged, kernel::LEAST_SIZE as usize)?;
+    let answer = raise_count(buf, types::KERNEL, judged, kernel::LEAST_SIZE as usize);
+    let Ok(used) = answer else {
+        return answer;
+    };
     ultra_writing::kernel::write(
         &mut buf[used as usize..],
         phys,
@@ -87,7 +93,10 @@ pub fn add_map(buf: &mut [u8], entries: &[u8]) -> Result<u32, Refusal>
 {
     let judged = ultra_arguments::map::bytes_check(entries);
     let size = map::ENTRIES + entries.len() / entry::WIDTH * entry::WIDTH;
-    let used = raise_count(buf, types::MEMORY_MAP, judged, size)?;
+    let answer = raise_count(buf, types::MEMORY_MAP, judged, size);
+    let Ok(used) = answer else {
+        return answer;
+    };
     ultra_writing::map::write_bytes(&mut buf[used as usize..], entries);
     Ok(used + size as u32)
 }
@@ -103,7 +112,10 @@ pub fn add_module(
     ensures { (result, buf.new) ≡ added_members buf.old true (module_of kind name.now address size) }
 {
     let judged = ultra_arguments::module::check(kind, name, address, size);
-    let used = raise_count(buf, types::MODULE, judged, module::LEAST_SIZE as usize)?;
+    let answer = raise_count(buf, types::MODULE, judged, module::LEAST_SIZE as usize);
+    let Ok(used) = answer else {
+        return answer;
+    };
     ultra_writing::module::write(&mut buf[used as usize..], kind, name, address, size);
     Ok(used + module::LEAST_SIZE)
 }

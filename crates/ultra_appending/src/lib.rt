@@ -65,8 +65,11 @@ pub fn raise_count(
     requires le_kind { 1 ≤ kind }
     ensures { (result, buf.new) ≡ count_raised buf.old kind (number_in given) size }
 {
-    let used = offset(buf, kind, given, size)?;
+    let answer = offset(buf, kind, given, size);
+    let Ok(_) = answer else {
+        return answer;
+    };
     let count = words::load_u32(buf, head::COUNT);
     words::store_u32(buf, head::COUNT, count + 1);
-    Ok(used)
+    answer
 }

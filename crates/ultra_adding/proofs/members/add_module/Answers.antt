@@ -9,36 +9,35 @@ use Rattle.ultra_format.specs.Additions.{module_of}
 use Rattle.ultra_arguments.proofs.Judged.{judged}
 use Rattle.ultra_adding.proofs.GivenMembers.{name_short}
 use Rattle.ultra_adding.proofs.Adding.{Adds, adds}
-use Rattle.refusals.proofs.Chains.{passed_on}
 use Rattle.refusals.specs.Answers.{checked}
 use Rattle.ultra_adding.proofs.members.add_module.Goals as goal
-use Rattle.ultra_adding.proofs.members.add_module.Goals.{After-raise_count}
+use Rattle.ultra_adding.proofs.members.add_module.Goals.{After-raise_count-answer}
 
-abbrev body : After-raise_count → Body
+abbrev body : After-raise_count-answer → Body
 body c = module_of c.args.kind c.args.name.now c.args.address c.args.size
 
-add : (c : After-raise_count) → Adds c.args.buf.now c.raise_count.new.buf true (body c) c.raise_count.result 96
+add : (c : After-raise_count-answer) → Adds c.args.buf.now c.raise_count-answer.new.buf true (body c) c.raise_count-answer.result 96
 unfolding written_size size_suits values texts ranges ordered
-add c = adds c.raise_count.ensures refl (c.check-judged.ensures ∙ ap checked (judged _ (body c) refl refl refl refl refl)) refl
+add c = adds c.raise_count-answer.ensures refl (c.check-judged.ensures ∙ ap checked (judged _ (body c) refl refl refl refl refl)) refl
 
-pub returns-in_err-used : goal.returns-in_err-used
-returns-in_err-used c = (add (goal.at.returns-in_err-used c).After-raise_count).refused c.in_err-used.was (passed_on _ c.from_residual.ensures.1)
+pub returns-in_default : goal.returns-in_default
+returns-in_default c = (add (goal.at.returns-in_default c).After-raise_count-answer).refused c.in_default.is
 
 pub slice_bounds-write-count : goal.slice_bounds-write-count
-slice_bounds-write-count c = omega (arith, (add (goal.at.slice_bounds-write-count c).After-raise_count).space c.in_ok-used.was)
+slice_bounds-write-count c = omega (arith, (add (goal.at.slice_bounds-write-count c).After-raise_count-answer).space c.in-Ok.is)
 
 pub slice_bounds-write-start : goal.slice_bounds-write-start
-slice_bounds-write-start c = omega (arith, (add (goal.at.slice_bounds-write-start c).After-raise_count).space c.in_ok-used.was)
+slice_bounds-write-start c = omega (arith, (add (goal.at.slice_bounds-write-start c).After-raise_count-answer).space c.in-Ok.is)
 
 pub write-requires : goal.write-requires
 unfolding written_size texts
 write-requires c =
-    let d = (add (goal.at.write-requires c).After-raise_count).holds c.in_ok-used.was in
-    (omega (arith, (add (goal.at.write-requires c).After-raise_count).space c.in_ok-used.was), omega (arith, name_short 64 _ d.1.texts_hold))
+    let d = (add (goal.at.write-requires c).After-raise_count-answer).holds c.in-Ok.is in
+    (omega (arith, (add (goal.at.write-requires c).After-raise_count-answer).space c.in-Ok.is), omega (arith, name_short 64 _ d.1.texts_hold))
 
 pub overflow_add-result : goal.overflow_add-result
-overflow_add-result c = omega (arith, (add (goal.at.overflow_add-result c).After-raise_count).space c.in_ok-used.was)
+overflow_add-result c = omega (arith, (add (goal.at.overflow_add-result c).After-raise_count-answer).space c.in-Ok.is)
 
 pub returns : goal.returns
 returns c =
-    (add (goal.at.returns c).After-raise_count).written c.in_ok-used.was c.write.ensures
+    (add (goal.at.returns c).After-raise_count-answer).written c.in-Ok.is c.write.ensures
