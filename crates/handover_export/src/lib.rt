@@ -63,7 +63,10 @@ fn fill(buf: &[u8], load: u64, out: &mut [u8], count: u32, size: u32)
 pub fn export(buf: &[u8], load: u64, out: &mut [u8]) -> Result<u32, Refusal>
     ensures { (result, out.new) ≡ exported buf.now load out.old }
 {
-    ultra_reading::used_length(buf, 2)?;
+    let answer = ultra_reading::used_length(buf, 2);
+    let Ok(_) = answer else {
+        return answer;
+    };
     let payload = export_sizes::payload(buf);
     let size = 16 + 32 * payload.count + payload.width;
     let rsdp = platform::rsdp(buf, head::WIDTH);

@@ -93,7 +93,10 @@ pub fn agent(buf: &[u8]) -> AgentAnswer
 fn indexed(buf: &[u8], index: u64) -> Result<u32, Refusal>
     ensures { result ≡ index_answer buf.now index }
 {
-    let size = handover_reading::read(buf)?;
+    let answer = handover_reading::read(buf);
+    let Ok(size) = answer else {
+        return answer;
+    };
     if words::load_u32(buf, 12) as u64 <= index {
         return Err(Refusal::new(refusals::COUNT, size));
     }
