@@ -1,12 +1,12 @@
 // A framebuffer, added after a platform and a kernel.
 use cases_adds::context;
-use cases_text::table::{Row, rows};
+use cases_text::table;
 use std::io;
 use ultra_format::FramebufferRecord;
 
 // Its width, height, pitch, bpp, format and address.
-fn members(rt: &impl Print, row: Row<'_>) -> io::Result<()> {
-    let [width, height, pitch, bpp, format, address] = row.numbers::<6>();
+fn members(rt: &impl Print, row: &[u8]) -> io::Result<()> {
+    let [width, height, pitch, bpp, format, address] = table::numbers::<6>(row);
     let record = FramebufferRecord {
         width: (width % 4294967296) as u32,
         height: (height % 4294967296) as u32,
@@ -15,13 +15,13 @@ fn members(rt: &impl Print, row: Row<'_>) -> io::Result<()> {
         format: (format % 65536) as u16,
         address,
     };
-    cases_adds::add(rt, row.label, context::kernel(), |buf| {
+    cases_adds::add(rt, table::label(row), context::kernel(), |buf| {
         ultra_building::add_framebuffer(buf, record)
     })
 }
 
 fn pixels(rt: &impl Print) -> io::Result<()> {
-    rows(
+    table::rows(
         b"\
         framebuffer: 1024 768 4100 32 3 3489660928\n\
         framebuffer of format 0, 24 bits: 1024 768 4100 24 0 3489660928\n\
@@ -35,13 +35,13 @@ fn pixels(rt: &impl Print) -> io::Result<()> {
         framebuffer of format 4, 32 bits: 1024 768 4100 32 4 3489660928\n\
         framebuffer of format 5, 24 bits: 1024 768 4100 24 5 3489660928\n\
         framebuffer of format 5, 32 bits: 1024 768 4100 32 5 3489660928\n",
+        |row| members(rt, row),
     )
-    .try_for_each(|row| members(rt, row))
 }
 
 // In the last, two rules are broken; the lower number is given.
 fn rows_and_ends(rt: &impl Print) -> io::Result<()> {
-    rows(
+    table::rows(
         b"\
         framebuffer of width 3, 24 bits, pitch 9: 3 768 9 24 1 3489660928\n\
         framebuffer of width 3, 24 bits, pitch 8: 3 768 8 24 1 3489660928\n\
@@ -54,8 +54,8 @@ fn rows_and_ends(rt: &impl Print) -> io::Result<()> {
         framebuffer, greatest pitch and height at 2^33 - 1: 1024 4294967295 4294967295 32 3 8589934591\n\
         framebuffer, greatest pitch and height at 2^33: 1024 4294967295 4294967295 32 3 8589934592\n\
         framebuffer of format 0, end above 2^64: 1024 768 4100 32 0 18446744073709551615\n",
+        |row| members(rt, row),
     )
-    .try_for_each(|row| members(rt, row))
 }
 
 pub fn all(rt: &impl Print) -> io::Result<()> {

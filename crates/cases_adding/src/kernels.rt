@@ -1,7 +1,7 @@
 // The kernel, added after a platform.
 use cases_adds::context;
 use cases_shared::given;
-use cases_text::table::{Row, rows};
+use cases_text::table;
 use std::io;
 use ultra_format::KernelRecord;
 
@@ -12,8 +12,8 @@ fn kernel(rt: &impl Print, label: &[u8], record: KernelRecord) -> io::Result<()>
 }
 
 // Its physical and virtual base, size and partition type; and 1 for a path of 0 bytes.
-fn members(rt: &impl Print, row: Row<'_>) -> io::Result<()> {
-    let [physical_base, virtual_base, size, partition_type, pathless] = row.numbers::<5>();
+fn members(rt: &impl Print, row: &[u8]) -> io::Result<()> {
+    let [physical_base, virtual_base, size, partition_type, pathless] = table::numbers::<5>(row);
     let mut record = given::kernel();
     record.physical_base = physical_base;
     record.virtual_base = virtual_base;
@@ -22,11 +22,11 @@ fn members(rt: &impl Print, row: Row<'_>) -> io::Result<()> {
     if pathless == 1 {
         record.path = [0u8; 256];
     }
-    kernel(rt, row.label, record)
+    kernel(rt, table::label(row), record)
 }
 
 fn places(rt: &impl Print) -> io::Result<()> {
-    rows(
+    table::rows(
         b"\
         kernel: 2097152 18446744071564165120 65536 2\n\
         kernel of partition type 0: 2097152 18446744071564165120 65536 0\n\
@@ -43,8 +43,8 @@ fn places(rt: &impl Print) -> io::Result<()> {
         kernel, physical end a page above 2^64: 18446744073709547520 4096 8192 8\n\
         kernel, virtual end at 2^64: 4096 18446744073709547520 4096 8\n\
         kernel, virtual end a page above 2^64: 4096 18446744073709547520 8192 8\n",
+        |row| members(rt, row),
     )
-    .try_for_each(|row| members(rt, row))
 }
 
 fn full_path(rt: &impl Print, label: &[u8], path: [u8; 256]) -> io::Result<()> {
@@ -53,34 +53,34 @@ fn full_path(rt: &impl Print, label: &[u8], path: [u8; 256]) -> io::Result<()> {
     kernel(rt, label, record)
 }
 
-fn with_path(rt: &impl Print, row: Row<'_>) -> io::Result<()> {
-    full_path(rt, row.label, given::field(row.given))
+fn with_path(rt: &impl Print, row: &[u8]) -> io::Result<()> {
+    full_path(rt, table::label(row), given::field(table::given(row)))
 }
 
 fn paths(rt: &impl Print) -> io::Result<()> {
-    rows(b"kernel, path of 1 byte: /\n").try_for_each(|row| with_path(rt, row))?;
+    table::rows(b"kernel, path of 1 byte: /\n", |row| with_path(rt, row))?;
     let mut path = [b'/'; 256];
     path[255] = 0;
     full_path(rt, b"kernel, path of 255 bytes", path)?;
     full_path(rt, b"kernel, path of 256 bytes", [b'/'; 256])?;
-    rows(
+    table::rows(
         b"\
         kernel, path of 0 bytes: \n\
         kernel, path without its slash: boot/k\n\
         kernel, path with a zero inside: /boot\0k\n\
         kernel, path with bytes 128 and 255: /b\x80\xff/k\n",
+        |row| with_path(rt, row),
     )
-    .try_for_each(|row| with_path(rt, row))
 }
 
 // Two rules are broken; the lower number is given.
 fn two_rules(rt: &impl Print) -> io::Result<()> {
-    rows(
+    table::rows(
         b"\
         kernel at physical 4095, path of 0 bytes: 4095 18446744071564165120 65536 8 1\n\
         kernel, path of 0 bytes, end above 2^64: 18446744073709547520 18446744071564165120 65536 8 1\n",
+        |row| members(rt, row),
     )
-    .try_for_each(|row| members(rt, row))
 }
 
 pub fn all(rt: &impl Print) -> io::Result<()> {

@@ -1,16 +1,16 @@
 // The command line, added after a platform and a kernel.
 use cases_adds::context;
-use cases_text::table::{Row, rows};
+use cases_text::table;
 use std::io;
 
-fn command_line(rt: &impl Print, row: Row<'_>) -> io::Result<()> {
-    cases_adds::add(rt, row.label, context::kernel(), |buf| {
-        ultra_building::add_command_line(buf, row.given)
+fn command_line(rt: &impl Print, row: &[u8]) -> io::Result<()> {
+    cases_adds::add(rt, table::label(row), context::kernel(), |buf| {
+        ultra_building::add_command_line(buf, table::given(row))
     })
 }
 
 pub fn all(rt: &impl Print) -> io::Result<()> {
-    rows(
+    table::rows(
         b"\
         line of 0 bytes: \n\
         line of 7 bytes: 1234567\n\
@@ -23,6 +23,6 @@ pub fn all(rt: &impl Print) -> io::Result<()> {
         line of bytes 1 and 127: \x01\x7f\n\
         line with byte 128: quiet\x80\n\
         line with byte 255: \xffquiet\n",
+        |row| command_line(rt, row),
     )
-    .try_for_each(|row| command_line(rt, row))
 }

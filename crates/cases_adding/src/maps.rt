@@ -1,20 +1,20 @@
 // The memory map, added after a platform and a kernel.
 use cases_adds::context;
-use cases_text::table::{Row, rows};
+use cases_text::table;
 use std::io;
 
 // The numbers of its entries: address, size and type of each.
-fn map(rt: &impl Print, row: Row<'_>) -> io::Result<()> {
+fn map(rt: &impl Print, row: &[u8]) -> io::Result<()> {
     let mut space = [0; 6];
-    let count = row.put_numbers(&mut space);
+    let count = table::put_numbers(row, &mut space);
     let numbers = &space[..count];
-    cases_adds::add(rt, row.label, context::kernel(), |buf| {
+    cases_adds::add(rt, table::label(row), context::kernel(), |buf| {
         ultra_building::add_map(buf, numbers)
     })
 }
 
 fn order_and_range(rt: &impl Print) -> io::Result<()> {
-    rows(
+    table::rows(
         b"\
         map (0, 4096), (4096, 1): 0 4096 1 4096 1 1\n\
         map (0, 4097), (4096, 1): 0 4097 1 4096 1 1\n\
@@ -26,13 +26,13 @@ fn order_and_range(rt: &impl Print) -> io::Result<()> {
         map, 4097 bytes at 2^64 - 4096: 18446744073709547520 4097 1\n\
         map, 2^64 - 1 bytes at 1: 1 18446744073709551615 1\n\
         map, 2^64 - 1 bytes at 2: 2 18446744073709551615 1\n",
+        |row| map(rt, row),
     )
-    .try_for_each(|row| map(rt, row))
 }
 
 // In the last three, all entries are tried for a rule before the next rule.
 fn value_and_form(rt: &impl Print) -> io::Result<()> {
-    rows(
+    table::rows(
         b"\
         map of type 0: 4096 4096 0\n\
         map of type 4294967296: 4096 4096 4294967296\n\
@@ -45,8 +45,8 @@ fn value_and_form(rt: &impl Print) -> io::Result<()> {
         map, wrong order, then type 0: 0 4097 1 4096 1 0\n\
         map, wrong order, then an end above 2^64: 0 4097 1 4096 18446744073709551615 1\n\
         map, end above 2^64, then type 0: 18446744073709547520 4097 1 0 0 0\n",
+        |row| map(rt, row),
     )
-    .try_for_each(|row| map(rt, row))
 }
 
 pub fn all(rt: &impl Print) -> io::Result<()> {

@@ -1,7 +1,7 @@
 // A module, added after a platform and a kernel.
 use cases_adds::context;
 use cases_shared::given;
-use cases_text::table::{Row, rows};
+use cases_text::table;
 use std::io;
 use ultra_format::ModuleRecord;
 
@@ -12,8 +12,8 @@ fn module(rt: &impl Print, label: &[u8], record: ModuleRecord) -> io::Result<()>
 }
 
 // Its type, address and size; and 1 for a name of bytes 128.
-fn members(rt: &impl Print, row: Row<'_>) -> io::Result<()> {
-    let [kind, address, size, badly_named] = row.numbers::<4>();
+fn members(rt: &impl Print, row: &[u8]) -> io::Result<()> {
+    let [kind, address, size, badly_named] = table::numbers::<4>(row);
     let mut record = given::module();
     record.kind = (kind % 4294967296) as u32;
     record.address = address;
@@ -21,11 +21,11 @@ fn members(rt: &impl Print, row: Row<'_>) -> io::Result<()> {
     if badly_named == 1 {
         record.name = [128u8; 64];
     }
-    module(rt, row.label, record)
+    module(rt, table::label(row), record)
 }
 
 fn places(rt: &impl Print) -> io::Result<()> {
-    rows(
+    table::rows(
         b"\
         module: 1 16777216 123457\n\
         module of type 0: 0 16777216 123457\n\
@@ -37,18 +37,18 @@ fn places(rt: &impl Print) -> io::Result<()> {
         module of 0 bytes at 0: 1 0 0\n\
         module, end at 2^64: 1 18446744073709547520 4096\n\
         module, end above 2^64: 1 18446744073709547520 4097\n",
+        |row| members(rt, row),
     )
-    .try_for_each(|row| members(rt, row))
 }
 
-fn named(rt: &impl Print, row: Row<'_>) -> io::Result<()> {
+fn named(rt: &impl Print, row: &[u8]) -> io::Result<()> {
     let mut record = given::module();
-    record.name = given::field(row.given);
-    module(rt, row.label, record)
+    record.name = given::field(table::given(row));
+    module(rt, table::label(row), record)
 }
 
 fn names(rt: &impl Print) -> io::Result<()> {
-    rows(
+    table::rows(
         b"\
         module, name of 0 bytes: \n\
         module, name of 63 bytes: nnnnnnnnnnnnnnnnnnnnnnnnnnnnnnnnnnnnnnnnnnnnnnnnnnnnnnnnnnnnnnn\n\
@@ -56,18 +56,18 @@ fn names(rt: &impl Print) -> io::Result<()> {
         module, name with a zero inside: ini\0rd\n\
         module, name with byte 127: initrd\x7f\n\
         module, name with byte 128: initrd\x80\n",
+        |row| named(rt, row),
     )
-    .try_for_each(|row| named(rt, row))
 }
 
 // Two rules are broken; the lower number is given.
 fn two_rules(rt: &impl Print) -> io::Result<()> {
-    rows(
+    table::rows(
         b"\
         module of type 0, bad name: 0 16777216 123457 1\n\
         module, bad name, end above 2^64: 1 16777216 18446744073709551615 1\n",
+        |row| members(rt, row),
     )
-    .try_for_each(|row| members(rt, row))
 }
 
 pub fn all(rt: &impl Print) -> io::Result<()> {

@@ -1,7 +1,7 @@
 // The platform, added to a context that was just begun.
 use cases_adds::context;
 use cases_shared::given;
-use cases_text::table::{Row, rows};
+use cases_text::table;
 use std::io;
 use ultra_format::PlatformRecord;
 
@@ -12,24 +12,24 @@ fn platform(rt: &impl Print, label: &[u8], record: PlatformRecord) -> io::Result
 }
 
 // Its type; and 1 for a name of bytes 128.
-fn typed(rt: &impl Print, row: Row<'_>) -> io::Result<()> {
-    let [kind, badly_named] = row.numbers::<2>();
+fn typed(rt: &impl Print, row: &[u8]) -> io::Result<()> {
+    let [kind, badly_named] = table::numbers::<2>(row);
     let mut record = given::platform();
     record.kind = (kind % 4294967296) as u32;
     if badly_named == 1 {
         record.name = [128u8; 32];
     }
-    platform(rt, row.label, record)
+    platform(rt, table::label(row), record)
 }
 
 fn types(rt: &impl Print) -> io::Result<()> {
-    rows(
+    table::rows(
         b"\
         platform: 3\n\
         platform of type 0: 0\n\
         platform of type 4294967295: 4294967295\n",
+        |row| typed(rt, row),
     )
-    .try_for_each(|row| typed(rt, row))
 }
 
 fn optional(present: u64) -> Option<u64> {
@@ -47,8 +47,8 @@ fn optional_byte(present: u64) -> Option<u8> {
 }
 
 // Its type; 1 if it has a higher half base, a depth, a dtb, an smbios; and 1 for a name that begins with byte 128.
-fn members(rt: &impl Print, row: Row<'_>) -> io::Result<()> {
-    let [kind, higher_half_base, depth, dtb, smbios, badly_named] = row.numbers::<6>();
+fn members(rt: &impl Print, row: &[u8]) -> io::Result<()> {
+    let [kind, higher_half_base, depth, dtb, smbios, badly_named] = table::numbers::<6>(row);
     let mut name = given::field(b"frost");
     if badly_named == 1 {
         name[0] = 128;
@@ -64,31 +64,31 @@ fn members(rt: &impl Print, row: Row<'_>) -> io::Result<()> {
         dtb: optional(dtb),
         smbios: optional(smbios),
     };
-    platform(rt, row.label, record)
+    platform(rt, table::label(row), record)
 }
 
 // In the last two, two or three rules are broken; the lowest number is given.
 fn absent(rt: &impl Print) -> io::Result<()> {
-    rows(
+    table::rows(
         b"\
         platform without higher half base: 2 0 1 1 1\n\
         platform without depth: 2 1 0 1 1\n\
         platform without dtb: 2 1 1 0 1\n\
         platform without smbios: 2 1 1 1 0\n\
         platform without depth, type 0, bad name: 0 1 0 1 1 1\n",
-    )
-    .try_for_each(|row| members(rt, row))?;
-    rows(b"platform of type 0, bad name: 0 1\n").try_for_each(|row| typed(rt, row))
+        |row| members(rt, row),
+    )?;
+    table::rows(b"platform of type 0, bad name: 0 1\n", |row| typed(rt, row))
 }
 
-fn named(rt: &impl Print, row: Row<'_>) -> io::Result<()> {
+fn named(rt: &impl Print, row: &[u8]) -> io::Result<()> {
     let mut record = given::platform();
-    record.name = given::field(row.given);
-    platform(rt, row.label, record)
+    record.name = given::field(table::given(row));
+    platform(rt, table::label(row), record)
 }
 
 fn names(rt: &impl Print) -> io::Result<()> {
-    rows(
+    table::rows(
         b"\
         platform, name of 0 bytes: \n\
         platform, name of 31 bytes: nnnnnnnnnnnnnnnnnnnnnnnnnnnnnnn\n\
@@ -97,8 +97,8 @@ fn names(rt: &impl Print) -> io::Result<()> {
         platform, name after a zero: \0frost\n\
         platform, name with byte 127: f\x7frost\n\
         platform, name with byte 128: f\x80rost\n",
+        |row| named(rt, row),
     )
-    .try_for_each(|row| named(rt, row))
 }
 
 pub fn all(rt: &impl Print) -> io::Result<()> {

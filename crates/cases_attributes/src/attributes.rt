@@ -2,8 +2,7 @@
 use crate::context;
 use cases_contexts::build;
 use cases_shared::{members, show};
-use cases_text::print;
-use cases_text::table::{Row, rows};
+use cases_text::{print, table};
 use lent_buffers::Part;
 use refusals::Refusal;
 use std::io;
@@ -60,18 +59,18 @@ fn context_of_every_type() -> [u8; 1024] {
 }
 
 // The index.
-fn every(rt: &impl Print, row: Row<'_>) -> io::Result<()> {
-    let [index] = row.numbers::<1>();
-    ask(rt, row.label, &context_of_every_type(), index)
+fn every(rt: &impl Print, row: &[u8]) -> io::Result<()> {
+    let [index] = table::numbers::<1>(row);
+    ask(rt, table::label(row), &context_of_every_type(), index)
 }
 
-fn every_start(rt: &impl Print, row: Row<'_>) -> io::Result<()> {
-    let [index] = row.numbers::<1>();
-    ask_start(rt, row.label, &context_of_every_type(), index)
+fn every_start(rt: &impl Print, row: &[u8]) -> io::Result<()> {
+    let [index] = table::numbers::<1>(row);
+    ask_start(rt, table::label(row), &context_of_every_type(), index)
 }
 
 pub fn every_type(rt: &impl Print) -> io::Result<()> {
-    rows(
+    table::rows(
         b"\
         index 0: 0\n\
         index 1: 1\n\
@@ -86,34 +85,34 @@ pub fn every_type(rt: &impl Print) -> io::Result<()> {
         index 4294967296: 4294967296\n\
         index 4294967303: 4294967303\n\
         index 18446744073709551615: 18446744073709551615\n",
-    )
-    .try_for_each(|row| every(rt, row))?;
-    rows(
+        |row| every(rt, row),
+    )?;
+    table::rows(
         b"\
         start alone of index 0: 0\n\
         start alone of index 4: 4\n\
         start alone of index 7: 7\n\
         start alone of index 8: 8\n\
         start alone of index 4294967296: 4294967296\n",
+        |row| every_start(rt, row),
     )
-    .try_for_each(|row| every_start(rt, row))
 }
 
 // The platform's size. It has a kernel right after it, whose type, size, bases and size in memory are not zero. (Only the byte where one
 // of 56 bytes would have its depth is zero: it is the lowest of a base, which is a multiple of 4,096.)
-fn platform(rt: &impl Print, row: Row<'_>) -> io::Result<()> {
-    let [size] = row.numbers::<1>();
+fn platform(rt: &impl Print, row: &[u8]) -> io::Result<()> {
+    let [size] = table::numbers::<1>(row);
     let mut buf = [165u8; 1024];
     build::head(&mut buf, 2);
     context::platform(&mut buf, size);
     if size < 256 {
         context::kernel(&mut buf, 8 + size, 336);
     }
-    ask(rt, row.label, &buf, 0)
+    ask(rt, table::label(row), &buf, 0)
 }
 
 pub fn platforms(rt: &impl Print) -> io::Result<()> {
-    rows(
+    table::rows(
         b"\
         platform of 56 bytes: 56\n\
         platform of 64 bytes: 64\n\
@@ -121,8 +120,8 @@ pub fn platforms(rt: &impl Print) -> io::Result<()> {
         platform of 80 bytes: 80\n\
         platform of 88 bytes: 88\n\
         platform of 96 bytes: 96\n",
+        |row| platform(rt, row),
     )
-    .try_for_each(|row| platform(rt, row))
 }
 
 fn platform_and_kernel(count: u64) -> [u8; 1024] {
@@ -139,9 +138,9 @@ fn third_of_type_0() -> [u8; 1024] {
 }
 
 // A third attribute of type 0 is refused, whatever index is asked for.
-fn type_zero(rt: &impl Print, row: Row<'_>) -> io::Result<()> {
-    let [index] = row.numbers::<1>();
-    ask(rt, row.label, &third_of_type_0(), index)
+fn type_zero(rt: &impl Print, row: &[u8]) -> io::Result<()> {
+    let [index] = table::numbers::<1>(row);
+    ask(rt, table::label(row), &third_of_type_0(), index)
 }
 
 fn start_of_type_zero(rt: &impl Print) -> io::Result<()> {
@@ -150,29 +149,29 @@ fn start_of_type_zero(rt: &impl Print) -> io::Result<()> {
 }
 
 // The count and the index.
-fn count(rt: &impl Print, row: Row<'_>) -> io::Result<()> {
-    let [count, index] = row.numbers::<2>();
-    ask(rt, row.label, &platform_and_kernel(count), index)
+fn count(rt: &impl Print, row: &[u8]) -> io::Result<()> {
+    let [count, index] = table::numbers::<2>(row);
+    ask(rt, table::label(row), &platform_and_kernel(count), index)
 }
 
 pub fn refused(rt: &impl Print) -> io::Result<()> {
-    rows(
+    table::rows(
         b"\
         third of type 0, index 0: 0\n\
         third of type 0, index 2: 2\n\
         third of type 0, index 3, the count: 3\n\
         third of type 0, index 2^64 - 1: 18446744073709551615\n",
-    )
-    .try_for_each(|row| type_zero(rt, row))?;
+        |row| type_zero(rt, row),
+    )?;
     start_of_type_zero(rt)?;
-    rows(
+    table::rows(
         b"\
         count 1, index 0: 1 0\n\
         count 1, index 1: 1 1\n\
         count 0, index 0: 0 0\n\
         count 1025, index 1024: 1025 1024\n\
         count 1025, index 1025: 1025 1025\n",
-    )
-    .try_for_each(|row| count(rt, row))?;
+        |row| count(rt, row),
+    )?;
     ask(rt, b"zeros, index 0", &[0u8; 1024], 0)
 }

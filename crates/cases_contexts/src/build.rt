@@ -23,8 +23,8 @@ pub fn put(buf: &mut [u8; 1024], at: u64, width: u64, number: u64) {
 
 // Each row is given where, of how many bytes, and which number.
 pub fn put_rows(buf: &mut [u8; 1024], table: &[u8]) {
-    for row in table::rows(table) {
-        let [at, width, number] = row.numbers::<3>();
+    for row in table.split_inclusive(|b| *b == b'\n') {
+        let [at, width, number] = table::numbers::<3>(row);
         put(buf, at, width, number);
     }
 }

@@ -5,14 +5,14 @@
 mod given;
 mod show;
 
-use cases_text::table::{Row, rows};
+use cases_text::table;
 use std::io;
 
 // The records that are shown of a payload.
 const SHOWN: u64 = 16;
 
 // One attribute by its number: 3 is a map of two ranges, 30 an empty one; 4 a module whose name has three letters, 40 one without a name; 5 a
-// command line of five letters, 50 an empty one; 6 a framebuffer; 7 a vendor's.
+// command line of five letters, 50 an empty one; 6 a framebuffer; 7 a vendor's. There is none where the row has no more numbers.
 fn attribute(buf: &mut [u8], at: usize, kind: u64) -> usize {
     match kind {
         3 => given::map(buf, at, 2),
@@ -28,55 +28,56 @@ fn attribute(buf: &mut [u8], at: usize, kind: u64) -> usize {
 }
 
 // The RSDP address, the load address, the output's length, and the attributes after the kernel.
-fn attributes(rt: &impl Print, row: Row<'_>) -> io::Result<()> {
-    let mut space = [0; 24];
-    let count = row.put_numbers(&mut space);
-    let [rsdp, load, length, kinds @ ..] = &space[..count] else {
-        return Ok(());
-    };
+fn attributes(rt: &impl Print, label: &[u8], numbers: [u64; 24], count: usize) -> io::Result<()> {
+    let [rsdp, load, length, ..] = numbers;
     let mut buf = [0u8; 4096];
-    let mut at = given::front(&mut buf, 2 + kinds.len() as u64, *rsdp);
-    for kind in kinds {
+    let mut at = given::front(&mut buf, (count as u64).wrapping_sub(1), rsdp);
+    for kind in &numbers[3..] {
         at = attribute(&mut buf, at, *kind);
     }
-    show::export(rt, row.label, &buf, *load, *length, SHOWN)
+    show::export(rt, label, &buf, load, length, SHOWN)
 }
 
 // The address, the size and the type of the map's one range.
-fn range(rt: &impl Print, row: Row<'_>) -> io::Result<()> {
-    let [address, size, kind] = row.numbers::<3>();
+fn range(rt: &impl Print, label: &[u8], numbers: [u64; 24]) -> io::Result<()> {
+    let [address, size, kind, ..] = numbers;
     let mut buf = [0u8; 4096];
     let at = given::front(&mut buf, 3, 0);
     given::map(&mut buf, at, 1);
     given::entry(&mut buf, 408, address, size, kind);
-    show::export(rt, row.label, &buf, 0, 1000, 2)
+    show::export(rt, label, &buf, 0, 1000, 2)
 }
 
 // How many ranges, the RSDP address, the load address and the output's length.
-fn ranges(rt: &impl Print, row: Row<'_>) -> io::Result<()> {
-    let [n, rsdp, load, length] = row.numbers::<4>();
+fn ranges(rt: &impl Print, label: &[u8], numbers: [u64; 24]) -> io::Result<()> {
+    let [n, rsdp, load, length, ..] = numbers;
     let mut buf = [0u8; 65536];
     let at = given::front(&mut buf, 3, rsdp);
     given::map(&mut buf, at, n);
-    show::export(rt, row.label, &buf, load, length, 1)
+    show::export(rt, label, &buf, load, length, 1)
 }
 
 // How many modules with a name of 63 letters, how many letters in the command line, the load address and the output's length.
-fn modules(rt: &impl Print, row: Row<'_>) -> io::Result<()> {
-    let [n, letters, load, length] = row.numbers::<4>();
+fn modules(rt: &impl Print, label: &[u8], numbers: [u64; 24]) -> io::Result<()> {
+    let [n, letters, load, length, ..] = numbers;
     let mut buf = [0u8; 65536];
     let at = given::front(&mut buf, 3 + n % 1000, 0);
     let end = given::modules(&mut buf, at, n % 1000);
     given::line(&mut buf, end, letters);
-    show::export(rt, row.label, &buf, load, length, 1)
+    show::export(rt, label, &buf, load, length, 1)
 }
 
-fn case(rt: &impl Print, row: Row<'_>) -> io::Result<()> {
-    match row.kind() {
-        Some((b'a', row)) => attributes(rt, row),
-        Some((b't', row)) => range(rt, row),
-        Some((b'r', row)) => ranges(rt, row),
-        Some((b'm', row)) => modules(rt, row),
+fn case(rt: &impl Print, row: &[u8]) -> io::Result<()> {
+    let Some((kind, label)) = table::kind(row) else {
+        return Ok(());
+    };
+    let mut numbers = [0; 24];
+    let count = table::put_numbers(row, &mut numbers);
+    match kind {
+        b'a' => attributes(rt, label, numbers, count),
+        b't' => range(rt, label, numbers),
+        b'r' => ranges(rt, label, numbers),
+        b'm' => modules(rt, label, numbers),
         _ => Ok(()),
     }
 }
@@ -84,5 +85,5 @@ fn case(rt: &impl Print, row: Row<'_>) -> io::Result<()> {
 fn main(rt: HostRuntime) -> io::Result<()> {
     let mut input = [0u8; 65536];
     let read = full_reads::read_full(&mut rt.stdin(), &mut input);
-    rows(&input[..read]).try_for_each(|row| case(&rt, row))
+    table::rows(&input[..read], |row| case(&rt, row))
 }

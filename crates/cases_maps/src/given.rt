@@ -2,14 +2,13 @@
 ghost use Rattle.std.specs.Prelude.{◌<◌};
 
 use crate::forms;
-use cases_text::table::Row;
 use std::io;
 
-// How many bytes there are after the numbers, and then these.
+// How many bytes there are after the numbers, and then these. A row of none has no numbers and no bytes.
 pub fn bytes_more(rt: &impl Print, label: &[u8], given: &[u64]) -> io::Result<()> {
     match given.split_first() {
         Some((more, numbers)) => forms::judge(rt, label, numbers, *more),
-        None => Ok(()),
+        None => forms::judge(rt, label, &[], 0),
     }
 }
 
@@ -49,11 +48,11 @@ fn first(rt: &impl Print, label: &[u8], numbers: &[u64; 16384], count: u64) -> i
 }
 
 // How many numbers of sound entries, and up to three that are others: the index and the number.
-pub fn sound_but(rt: &impl Print, row: Row<'_>) -> io::Result<()> {
-    let [count, i, first_other, j, second_other, k, third_other] = row.numbers::<7>();
+pub fn sound_but(rt: &impl Print, label: &[u8], given: [u64; 24]) -> io::Result<()> {
+    let [count, i, first_other, j, second_other, k, third_other, ..] = given;
     let mut numbers = sound();
     put(&mut numbers, i, first_other);
     put(&mut numbers, j, second_other);
     put(&mut numbers, k, third_other);
-    first(rt, row.label, &numbers, count)
+    first(rt, label, &numbers, count)
 }

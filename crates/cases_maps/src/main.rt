@@ -6,19 +6,19 @@
 mod forms;
 mod given;
 
-use cases_text::table::{Row, rows};
+use cases_text::table;
 use std::io;
 
-fn case(rt: &impl Print, row: Row<'_>) -> io::Result<()> {
-    let Some((kind, row)) = row.kind() else {
+fn case(rt: &impl Print, row: &[u8]) -> io::Result<()> {
+    let Some((kind, label)) = table::kind(row) else {
         return Ok(());
     };
-    let mut space = [0; 24];
-    let count = row.put_numbers(&mut space);
+    let mut numbers = [0; 24];
+    let count = table::put_numbers(row, &mut numbers);
     match kind {
-        b'e' => forms::judge(rt, row.label, &space[..count], 0),
-        b'b' => given::bytes_more(rt, row.label, &space[..count]),
-        b's' => given::sound_but(rt, row),
+        b'e' => forms::judge(rt, label, &numbers[..count], 0),
+        b'b' => given::bytes_more(rt, label, &numbers[..count]),
+        b's' => given::sound_but(rt, label, numbers),
         _ => Ok(()),
     }
 }
@@ -26,5 +26,5 @@ fn case(rt: &impl Print, row: Row<'_>) -> io::Result<()> {
 fn main(rt: HostRuntime) -> io::Result<()> {
     let mut input = [0u8; 65536];
     let read = full_reads::read_full(&mut rt.stdin(), &mut input);
-    rows(&input[..read]).try_for_each(|row| case(&rt, row))
+    table::rows(&input[..read], |row| case(&rt, row))
 }

@@ -8,15 +8,14 @@ mod long;
 mod questions;
 mod writing;
 
-use cases_text::table::{Row, rows};
+use cases_text::table;
 use std::io;
 
-fn case(rt: &impl Print, row: Row<'_>) -> io::Result<()> {
-    let Some((kind, row)) = row.kind() else {
+fn case(rt: &impl Print, row: &[u8]) -> io::Result<()> {
+    let Some((kind, label)) = table::kind(row) else {
         return Ok(());
     };
-    let label = row.label;
-    let numbers = row.numbers::<6>();
+    let numbers = table::numbers::<6>(row);
     match kind {
         b'r' => questions::read(rt, label, numbers),
         b'a' => questions::agent(rt, label, numbers),
@@ -34,5 +33,5 @@ fn case(rt: &impl Print, row: Row<'_>) -> io::Result<()> {
 fn main(rt: HostRuntime) -> io::Result<()> {
     let mut input = [0u8; 65536];
     let read = full_reads::read_full(&mut rt.stdin(), &mut input);
-    rows(&input[..read]).try_for_each(|row| case(&rt, row))
+    table::rows(&input[..read], |row| case(&rt, row))
 }

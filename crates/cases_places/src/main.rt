@@ -7,7 +7,7 @@ mod places;
 
 use adds::add;
 use cases_adds::{changed, context, line};
-use cases_text::table::Row;
+use cases_text::table;
 use refusals::Refusal;
 use std::io;
 
@@ -46,12 +46,12 @@ fn add_within(buf: &mut [u8], room: u64, kind: u64, variant: u64) -> Result<u32,
 
 // What stands there, as three numbers for `attributes`; the room; and the type and the variant of what is added. All of the buffer is
 // compared.
-fn case(rt: &impl Print, row: Row<'_>) -> io::Result<()> {
-    let [count, first, second, room, kind, variant] = row.numbers::<6>();
+fn case(rt: &impl Print, row: &[u8]) -> io::Result<()> {
+    let [count, first, second, room, kind, variant] = table::numbers::<6>(row);
     let before = attributes(count, first, second);
     let mut after = before;
     let answer = add_within(&mut after, room, kind, variant);
-    line(rt, row.label, answer, changed(&before, &after))
+    line(rt, table::label(row), answer, changed(&before, &after))
 }
 
 fn main(rt: HostRuntime) -> io::Result<()> {

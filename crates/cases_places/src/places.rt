@@ -1,11 +1,11 @@
 // Each row is given what stands there, the room, and the type and the variant of what is added.
 use crate::case;
-use cases_text::table::rows;
+use cases_text::table;
 use std::io;
 
 // First a platform, then a kernel, then neither.
 fn first_and_second(rt: &impl Print) -> io::Result<()> {
-    rows(
+    table::rows(
         b"\
         kernel first: 0 0 0 1024 2 0\n\
         map first: 0 0 0 1024 3 1\n\
@@ -23,13 +23,13 @@ fn first_and_second(rt: &impl Print) -> io::Result<()> {
         platform of type 0 third: 2 0 0 1024 1 1\n\
         kernel third: 2 0 0 1024 2 0\n\
         kernel of partition type 0 third: 2 0 0 1024 2 1\n",
+        |row| case(rt, row),
     )
-    .try_for_each(|row| case(rt, row))
 }
 
 // Types that stand once, and modules, which stand together.
 fn repeats(rt: &impl Print) -> io::Result<()> {
-    rows(
+    table::rows(
         b"\
         map after a map: 2 3 0 1024 3 1\n\
         map of 4 numbers after a map: 2 3 0 1024 3 2\n\
@@ -44,12 +44,12 @@ fn repeats(rt: &impl Print) -> io::Result<()> {
         module after a module: 2 4 0 1024 4 0\n\
         module after a module and a framebuffer: 2 4 6 1024 4 0\n\
         module of type 0 after a module and a framebuffer: 2 4 6 1024 4 1\n",
+        |row| case(rt, row),
     )
-    .try_for_each(|row| case(rt, row))
 }
 
 fn rooms(rt: &impl Print) -> io::Result<()> {
-    rows(
+    table::rows(
         b"\
         platform in 96 bytes: 0 0 0 96 1 0\n\
         platform in 95 bytes: 0 0 0 95 1 0\n\
@@ -63,13 +63,13 @@ fn rooms(rt: &impl Print) -> io::Result<()> {
         map of one entry in 463 bytes: 2 0 0 463 3 1\n\
         map of 4 numbers in 439 bytes: 2 0 0 439 3 2\n\
         map, wrong order, in 439 bytes: 2 0 0 439 3 3\n",
+        |row| case(rt, row),
     )
-    .try_for_each(|row| case(rt, row))
 }
 
 // In fewer bytes than the context has, reading refuses it.
 fn more_rooms(rt: &impl Print) -> io::Result<()> {
-    rows(
+    table::rows(
         b"\
         module in 528 bytes: 2 0 0 528 4 0\n\
         module in 527 bytes: 2 0 0 527 4 0\n\
@@ -85,8 +85,8 @@ fn more_rooms(rt: &impl Print) -> io::Result<()> {
         framebuffer in 431 bytes: 2 0 0 431 6 0\n\
         framebuffer in 7 bytes: 2 0 0 7 6 0\n\
         framebuffer in 0 bytes: 2 0 0 0 6 0\n",
+        |row| case(rt, row),
     )
-    .try_for_each(|row| case(rt, row))
 }
 
 pub fn all(rt: &impl Print) -> io::Result<()> {

@@ -1,8 +1,7 @@
 // The map copied out.
 use cases_contexts::build;
 use cases_shared::show;
-use cases_text::print;
-use cases_text::table::{Row, rows};
+use cases_text::{print, table};
 use std::io;
 
 // Lends the first `length` numbers of the output.
@@ -14,10 +13,10 @@ fn copy_to(rt: &impl Print, buf: &[u8; 1024], out: &mut [u64], length: u64) -> i
 }
 
 // Lends the first of eight sevens, as many as the row says, and shows all eight afterwards.
-fn copy(rt: &impl Print, row: Row<'_>, buf: &[u8; 1024]) -> io::Result<()> {
-    let [length] = row.numbers::<1>();
+fn copy(rt: &impl Print, row: &[u8], buf: &[u8; 1024]) -> io::Result<()> {
+    let [length] = table::numbers::<1>(row);
     let mut out = [7u64; 8];
-    print::words(rt, row.label)?;
+    print::words(rt, table::label(row))?;
     copy_to(rt, buf, &mut out, length)?;
     print::words(rt, b", output")?;
     print::numbers(rt, &out)?;
@@ -35,11 +34,11 @@ fn map_of_two(count: u64) -> [u8; 1024] {
     buf
 }
 
-fn of_two(rt: &impl Print, row: Row<'_>) -> io::Result<()> {
+fn of_two(rt: &impl Print, row: &[u8]) -> io::Result<()> {
     copy(rt, row, &map_of_two(3))
 }
 
-fn none(rt: &impl Print, row: Row<'_>) -> io::Result<()> {
+fn none(rt: &impl Print, row: &[u8]) -> io::Result<()> {
     let mut buf = [0u8; 1024];
     build::head(&mut buf, 3);
     build::platform_and_kernel(&mut buf, 88);
@@ -47,7 +46,7 @@ fn none(rt: &impl Print, row: Row<'_>) -> io::Result<()> {
     copy(rt, row, &buf)
 }
 
-fn of_none(rt: &impl Print, row: Row<'_>) -> io::Result<()> {
+fn of_none(rt: &impl Print, row: &[u8]) -> io::Result<()> {
     let mut buf = [0u8; 1024];
     build::head(&mut buf, 3);
     build::platform_and_kernel(&mut buf, 88);
@@ -56,44 +55,44 @@ fn of_none(rt: &impl Print, row: Row<'_>) -> io::Result<()> {
 }
 
 // The map itself is sound, and what follows it is refused.
-fn and_type_zero(rt: &impl Print, row: Row<'_>) -> io::Result<()> {
+fn and_type_zero(rt: &impl Print, row: &[u8]) -> io::Result<()> {
     let mut buf = map_of_two(4);
     build::header(&mut buf, 488, 0, 8);
     copy(rt, row, &buf)
 }
 
 fn lengths(rt: &impl Print) -> io::Result<()> {
-    rows(
+    table::rows(
         b"\
         two ranges into 0: 0\n\
         two ranges into 5: 5\n\
         two ranges into 6: 6\n\
         two ranges into 7: 7\n\
         two ranges into 8: 8\n",
-    )
-    .try_for_each(|row| of_two(rt, row))?;
-    rows(
+        |row| of_two(rt, row),
+    )?;
+    table::rows(
         b"\
         no map into 8: 8\n\
         no map into 0: 0\n",
-    )
-    .try_for_each(|row| none(rt, row))?;
-    rows(
+        |row| none(rt, row),
+    )?;
+    table::rows(
         b"\
         no ranges into 0: 0\n\
         no ranges into 8: 8\n",
-    )
-    .try_for_each(|row| of_none(rt, row))?;
-    rows(
+        |row| of_none(rt, row),
+    )?;
+    table::rows(
         b"\
         fourth of type 0 into 8: 8\n\
         fourth of type 0 into 0: 0\n",
+        |row| and_type_zero(rt, row),
     )
-    .try_for_each(|row| and_type_zero(rt, row))
 }
 
 // A map after a module; its types need 64 bits, and so do an address and a size.
-fn after_a_module(rt: &impl Print, row: Row<'_>) -> io::Result<()> {
+fn after_a_module(rt: &impl Print, row: &[u8]) -> io::Result<()> {
     let mut buf = [0u8; 1024];
     build::head(&mut buf, 4);
     build::platform_and_kernel(&mut buf, 88);
@@ -106,5 +105,8 @@ fn after_a_module(rt: &impl Print, row: Row<'_>) -> io::Result<()> {
 
 pub fn all(rt: &impl Print) -> io::Result<()> {
     lengths(rt)?;
-    rows(b"types of 64 bits after a module into 6: 6\n").try_for_each(|row| after_a_module(rt, row))
+    table::rows(
+        b"types of 64 bits after a module into 6: 6\n",
+        |row| after_a_module(rt, row),
+    )
 }

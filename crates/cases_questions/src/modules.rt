@@ -1,8 +1,7 @@
 // Which module holds an address.
 use cases_contexts::build;
 use cases_shared::show;
-use cases_text::print;
-use cases_text::table::{Row, rows};
+use cases_text::{print, table};
 use std::io;
 
 fn ask(rt: &impl Print, label: &[u8], buf: &[u8; 1024], address: u64) -> io::Result<()> {
@@ -21,13 +20,13 @@ fn with_one(count: u64, address: u64, size: u64) -> [u8; 1024] {
 }
 
 // The module's address and size, and the address asked for.
-fn one(rt: &impl Print, row: Row<'_>) -> io::Result<()> {
-    let [address, size, asked] = row.numbers::<3>();
-    ask(rt, row.label, &with_one(3, address, size), asked)
+fn one(rt: &impl Print, row: &[u8]) -> io::Result<()> {
+    let [address, size, asked] = table::numbers::<3>(row);
+    ask(rt, table::label(row), &with_one(3, address, size), asked)
 }
 
 fn ones(rt: &impl Print) -> io::Result<()> {
-    rows(
+    table::rows(
         b"\
         module of 5000 at 2097152: 2097152 5000 2097151\n\
         module of 5000 at 2097152: 2097152 5000 2097152\n\
@@ -69,8 +68,8 @@ fn ones(rt: &impl Print) -> io::Result<()> {
         module of 2^64 - 1 at 0: 0 18446744073709551615 0\n\
         module of 2^64 - 1 at 0: 0 18446744073709551615 18446744073709551614\n\
         module of 2^64 - 1 at 0: 0 18446744073709551615 18446744073709551615\n",
+        |row| one(rt, row),
     )
-    .try_for_each(|row| one(rt, row))
 }
 
 fn with_two(first: u64, first_size: u64, second: u64, second_size: u64) -> [u8; 1024] {
@@ -80,14 +79,14 @@ fn with_two(first: u64, first_size: u64, second: u64, second_size: u64) -> [u8; 
 }
 
 // The address and the size of each of two modules, and the address asked for.
-fn two(rt: &impl Print, row: Row<'_>) -> io::Result<()> {
-    let [first, first_size, second, second_size, asked] = row.numbers::<5>();
+fn two(rt: &impl Print, row: &[u8]) -> io::Result<()> {
+    let [first, first_size, second, second_size, asked] = table::numbers::<5>(row);
     let buf = with_two(first, first_size, second, second_size);
-    ask(rt, row.label, &buf, asked)
+    ask(rt, table::label(row), &buf, asked)
 }
 
 fn twos(rt: &impl Print) -> io::Result<()> {
-    rows(
+    table::rows(
         b"\
         second starts lower: 8192 8192 4096 8192 4095\n\
         second starts lower: 8192 8192 4096 8192 4096\n\
@@ -108,54 +107,54 @@ fn twos(rt: &impl Print) -> io::Result<()> {
         one page after the other: 4096 1 8192 1 8192\n\
         one page after the other: 4096 1 8192 1 12287\n\
         one page after the other: 4096 1 8192 1 12288\n",
+        |row| two(rt, row),
     )
-    .try_for_each(|row| two(rt, row))
 }
 
 // In place of the first module an attribute of type 7 with the same bytes.
-fn seven_and_module(rt: &impl Print, row: Row<'_>) -> io::Result<()> {
-    let [asked] = row.numbers::<1>();
+fn seven_and_module(rt: &impl Print, row: &[u8]) -> io::Result<()> {
+    let [asked] = table::numbers::<1>(row);
     let mut buf = with_two(8192, 8192, 12288, 8192);
     build::header(&mut buf, 432, 7, 96);
-    ask(rt, row.label, &buf, asked)
+    ask(rt, table::label(row), &buf, asked)
 }
 
 // The kernel's bytes 80..95, where a module has its address and size, hold 47 and 4096; and the module is past the count.
-fn none(rt: &impl Print, row: Row<'_>) -> io::Result<()> {
-    let [asked] = row.numbers::<1>();
+fn none(rt: &impl Print, row: &[u8]) -> io::Result<()> {
+    let [asked] = table::numbers::<1>(row);
     let mut buf = with_one(2, 4096, 4096);
     build::put(&mut buf, 184, 8, 4096);
-    ask(rt, row.label, &buf, asked)
+    ask(rt, table::label(row), &buf, asked)
 }
 
 // The first module is sound and holds the address, and what follows it is refused.
-fn and_type_zero(rt: &impl Print, row: Row<'_>) -> io::Result<()> {
-    let [asked] = row.numbers::<1>();
+fn and_type_zero(rt: &impl Print, row: &[u8]) -> io::Result<()> {
+    let [asked] = table::numbers::<1>(row);
     let mut buf = with_one(4, 4096, 4096);
     build::header(&mut buf, 528, 0, 8);
-    ask(rt, row.label, &buf, asked)
+    ask(rt, table::label(row), &buf, asked)
 }
 
 fn others(rt: &impl Print) -> io::Result<()> {
-    rows(
+    table::rows(
         b"\
         type 7 that looks like a module: 8192\n\
         type 7 that looks like a module: 12288\n",
-    )
-    .try_for_each(|row| seven_and_module(rt, row))?;
-    rows(
+        |row| seven_and_module(rt, row),
+    )?;
+    table::rows(
         b"\
         no module: 0\n\
         no module: 47\n\
         no module: 4096\n",
-    )
-    .try_for_each(|row| none(rt, row))?;
-    rows(
+        |row| none(rt, row),
+    )?;
+    table::rows(
         b"\
         fourth of type 0: 4096\n\
         fourth of type 0: 0\n",
+        |row| and_type_zero(rt, row),
     )
-    .try_for_each(|row| and_type_zero(rt, row))
 }
 
 pub fn all(rt: &impl Print) -> io::Result<()> {

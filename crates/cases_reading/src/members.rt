@@ -2,7 +2,7 @@
 // same rules in cases_adding.
 use crate::read;
 use cases_contexts::build;
-use cases_text::table::{Row, rows};
+use cases_text::table;
 use std::io;
 
 // A platform, a kernel, a module, a command line and a framebuffer, in 576 bytes. Each text fills its field up to the closing zero, at 55,
@@ -46,43 +46,43 @@ fn base() -> [u8; 1024] {
 }
 
 // A number of 8 bytes: where, and which.
-fn number(rt: &impl Print, row: Row<'_>) -> io::Result<()> {
-    let [at, number] = row.numbers::<2>();
+fn number(rt: &impl Print, row: &[u8]) -> io::Result<()> {
+    let [at, number] = table::numbers::<2>(row);
     let mut buf = base();
     build::put(&mut buf, at, 8, number);
-    read(rt, row.label, &buf, 1024)
+    read(rt, table::label(row), &buf, 1024)
 }
 
 // Two numbers of 4 bytes, one after the other: where, and which.
-fn halves(rt: &impl Print, row: Row<'_>) -> io::Result<()> {
-    let [at, first, second] = row.numbers::<3>();
+fn halves(rt: &impl Print, row: &[u8]) -> io::Result<()> {
+    let [at, first, second] = table::numbers::<3>(row);
     let mut buf = base();
     build::header(&mut buf, at, first, second);
-    read(rt, row.label, &buf, 1024)
+    read(rt, table::label(row), &buf, 1024)
 }
 
 // A framebuffer's pitch, bits and format.
-fn pixels(rt: &impl Print, row: Row<'_>) -> io::Result<()> {
-    let [pitch, bits, format] = row.numbers::<3>();
+fn pixels(rt: &impl Print, row: &[u8]) -> io::Result<()> {
+    let [pitch, bits, format] = table::numbers::<3>(row);
     let mut buf = base();
     build::put(&mut buf, 560, 4, pitch);
     build::put(&mut buf, 564, 2, bits);
     build::put(&mut buf, 566, 2, format);
-    read(rt, row.label, &buf, 1024)
+    read(rt, table::label(row), &buf, 1024)
 }
 
 // A byte: where, and which.
-fn byte(rt: &impl Print, row: Row<'_>) -> io::Result<()> {
-    let [at, byte] = row.numbers::<2>();
+fn byte(rt: &impl Print, row: &[u8]) -> io::Result<()> {
+    let [at, byte] = table::numbers::<2>(row);
     let mut buf = base();
     build::put(&mut buf, at, 1, byte);
-    read(rt, row.label, &buf, 1024)
+    read(rt, table::label(row), &buf, 1024)
 }
 
 // The physical base is at 104, the virtual one at 112, the size at 120.
 fn kernels(rt: &impl Print) -> io::Result<()> {
-    rows(b"kernel of 328 bytes: 96 2 328\n").try_for_each(|row| halves(rt, row))?;
-    rows(
+    table::rows(b"kernel of 328 bytes: 96 2 328\n", |row| halves(rt, row))?;
+    table::rows(
         b"\
         kernel at physical 2048: 104 2048\n\
         kernel at physical 4096: 104 4096\n\
@@ -95,33 +95,33 @@ fn kernels(rt: &impl Print) -> io::Result<()> {
         kernel, physical end above: 104 18446744073709547520\n\
         kernel, virtual end at 2^64: 112 18446744073709543424\n\
         kernel, virtual end above: 112 18446744073709547520\n",
+        |row| number(rt, row),
     )
-    .try_for_each(|row| number(rt, row))
 }
 
 // The type is at 444, after 4 reserved bytes; the address is at 512, the size at 520.
 fn modules(rt: &impl Print) -> io::Result<()> {
-    rows(
+    table::rows(
         b"\
         module of type 0: 440 0 0\n\
         module of type 2: 440 0 2\n\
         module of type 3: 440 0 3\n",
-    )
-    .try_for_each(|row| halves(rt, row))?;
-    rows(
+        |row| halves(rt, row),
+    )?;
+    table::rows(
         b"\
         module at 2048: 512 2048\n\
         module at 4096: 512 4096\n\
         module whose last page ends at 2^64: 520 18446744073709543425\n\
         module that ends at 2^64: 520 18446744073709547520\n\
         module that ends one past 2^64: 520 18446744073709547521\n",
+        |row| number(rt, row),
     )
-    .try_for_each(|row| number(rt, row))
 }
 
 // The address is at 568.
 fn framebuffers(rt: &impl Print) -> io::Result<()> {
-    rows(
+    table::rows(
         b"\
         format 0, 24 bits: 4 24 0\n\
         format 0, 32 bits: 4 32 0\n\
@@ -133,18 +133,18 @@ fn framebuffers(rt: &impl Print) -> io::Result<()> {
         format 5, 24 bits: 4 24 5\n\
         format 5, 32 bits: 4 32 5\n\
         pitch 3 for 32 bits: 3 32 3\n",
-    )
-    .try_for_each(|row| pixels(rt, row))?;
-    rows(
+        |row| pixels(rt, row),
+    )?;
+    table::rows(
         b"\
         framebuffer that ends at 2^64: 568 18446744073709551612\n\
         framebuffer that ends one past 2^64: 568 18446744073709551613\n",
+        |row| number(rt, row),
     )
-    .try_for_each(|row| number(rt, row))
 }
 
 fn texts(rt: &impl Print) -> io::Result<()> {
-    rows(
+    table::rows(
         b"\
         platform name of 32 bytes: 55 47\n\
         path of 256 bytes: 431 47\n\
@@ -160,8 +160,8 @@ fn texts(rt: &impl Print) -> io::Result<()> {
         path with byte 255: 177 255\n\
         path without its slash: 176 98\n\
         path of 0 bytes: 176 0\n",
+        |row| byte(rt, row),
     )
-    .try_for_each(|row| byte(rt, row))
 }
 
 pub fn all(rt: &impl Print) -> io::Result<()> {

@@ -1,7 +1,7 @@
 // Steps from a cursor to the next.
 use cases_contexts::build;
 use cases_shared::show;
-use cases_text::table::{Row, rows};
+use cases_text::table;
 use std::io;
 use ultra_reading::Cursor;
 
@@ -20,17 +20,17 @@ fn space() -> [u8; 1024] {
 }
 
 // The cursor's index and offset.
-fn step(rt: &impl Print, row: Row<'_>) -> io::Result<()> {
-    let [index, offset] = row.numbers::<2>();
+fn step(rt: &impl Print, row: &[u8]) -> io::Result<()> {
+    let [index, offset] = table::numbers::<2>(row);
     let cursor = Cursor {
         index: (index % 4294967296) as u32,
         offset: (offset % 4294967296) as u32,
     };
-    show::step(rt, row.label, cursor.step(&space()))
+    show::step(rt, table::label(row), cursor.step(&space()))
 }
 
 pub fn all(rt: &impl Print) -> io::Result<()> {
-    rows(
+    table::rows(
         b"\
         step 0 at 8: 0 8\n\
         step 1 at 96: 1 96\n\
@@ -47,6 +47,6 @@ pub fn all(rt: &impl Print) -> io::Result<()> {
         step 0 at 528, type 0: 0 528\n\
         step 0 at 536, size 4294967288: 0 536\n\
         step 0 at 544, a kernel out of place: 0 544\n",
+        |row| step(rt, row),
     )
-    .try_for_each(|row| step(rt, row))
 }

@@ -1,0 +1,6 @@
+-- `put_numbers` counts no more numbers than there is place for.
+use Rattle.std.proofs.Common.{length, ◌≡◌, ◌≤◌}
+use Rattle.cases_text.proofs.table.put_numbers.Given as goal
+
+abbrev pub invariant-loop-byte : goal.invariant-loop-byte
+invariant-loop-byte l = (length l.numbers ≡ length l.initial.numbers) × (l.count ≤ length l.numbers)
