@@ -3,7 +3,7 @@
 
 usage: page_names.py [ROOT]     ROOT is the repository's folder
 
-On README.md, docs/*.md and the README.md of tests, samples and crates; not on docs/CHANGES.md, docs/PORT.md and docs/DESIGN-PASS.md, which name what is gone too:
+On README.md, docs/*.md and the README.md of tests, samples and crates; not on docs/CHANGES.md, docs/PORT.md, docs/DESIGN-PASS.md and docs/LOOK-BACK.md, which name what is gone too:
     targets       `make X`, in backticks or as a line of a block, names a target, and so does every backtick in a column "Test".
     names         A word in backticks, and any word with an underscore, is a name that some file gives: a crate, a function, a definition,
                   a theorem, a target, a sample. `cases_*` stands for names that begin so.
@@ -28,7 +28,7 @@ import short_names
 from readme import FENCE, README, found, prose, read
 
 PAGES = (README, "docs/*.md", "tests/README.md", "samples/README.md", "crates/*/README.md")
-HISTORY = ("docs/CHANGES.md", "docs/PORT.md", "docs/DESIGN-PASS.md")
+HISTORY = ("docs/CHANGES.md", "docs/PORT.md", "docs/DESIGN-PASS.md", "docs/LOOK-BACK.md")
 PROMISES, CALLS, HEADER, LISTING = "docs/PROMISES.md", "docs/CALLS.md", "include/ultra.h", "samples/listing.txt"
 QUOTES, NUMBERS = "crates/refusals/specs/Refusals.antt", "crates/refusals/src/lib.rt"
 # Words in backticks that no file here gives: of the languages, of tools, of the listing, of an example's contract.
