@@ -21,7 +21,7 @@ fn members(rt: &impl Print, row: &[u8]) -> io::Result<()> {
 }
 
 fn pixels(rt: &impl Print) -> io::Result<()> {
-    table::rows(
+    table::try_rows(
         b"\
         framebuffer: 1024 768 4100 32 3 3489660928\n\
         framebuffer of format 0, 24 bits: 1024 768 4100 24 0 3489660928\n\
@@ -41,7 +41,7 @@ fn pixels(rt: &impl Print) -> io::Result<()> {
 
 // In the last, two rules are broken; the lower number is given.
 fn rows_and_ends(rt: &impl Print) -> io::Result<()> {
-    table::rows(
+    table::try_rows(
         b"\
         framebuffer of width 3, 24 bits, pitch 9: 3 768 9 24 1 3489660928\n\
         framebuffer of width 3, 24 bits, pitch 8: 3 768 8 24 1 3489660928\n\

@@ -26,7 +26,7 @@ fn members(rt: &impl Print, row: &[u8]) -> io::Result<()> {
 }
 
 fn places(rt: &impl Print) -> io::Result<()> {
-    table::rows(
+    table::try_rows(
         b"\
         kernel: 2097152 18446744071564165120 65536 2\n\
         kernel of partition type 0: 2097152 18446744071564165120 65536 0\n\
@@ -58,12 +58,12 @@ fn with_path(rt: &impl Print, row: &[u8]) -> io::Result<()> {
 }
 
 fn paths(rt: &impl Print) -> io::Result<()> {
-    table::rows(b"kernel, path of 1 byte: /\n", |row| with_path(rt, row))?;
+    table::try_rows(b"kernel, path of 1 byte: /\n", |row| with_path(rt, row))?;
     let mut path = [b'/'; 256];
     path[255] = 0;
     full_path(rt, b"kernel, path of 255 bytes", path)?;
     full_path(rt, b"kernel, path of 256 bytes", [b'/'; 256])?;
-    table::rows(
+    table::try_rows(
         b"\
         kernel, path of 0 bytes: \n\
         kernel, path without its slash: boot/k\n\
@@ -75,7 +75,7 @@ fn paths(rt: &impl Print) -> io::Result<()> {
 
 // Two rules are broken; the lower number is given.
 fn two_rules(rt: &impl Print) -> io::Result<()> {
-    table::rows(
+    table::try_rows(
         b"\
         kernel at physical 4095, path of 0 bytes: 4095 18446744071564165120 65536 8 1\n\
         kernel, path of 0 bytes, end above 2^64: 18446744073709547520 18446744071564165120 65536 8 1\n",

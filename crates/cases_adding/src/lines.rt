@@ -10,7 +10,7 @@ fn command_line(rt: &impl Print, row: &[u8]) -> io::Result<()> {
 }
 
 pub fn all(rt: &impl Print) -> io::Result<()> {
-    table::rows(
+    table::try_rows(
         b"\
         line of 0 bytes: \n\
         line of 7 bytes: 1234567\n\

@@ -14,7 +14,7 @@ fn map(rt: &impl Print, row: &[u8]) -> io::Result<()> {
 }
 
 fn order_and_range(rt: &impl Print) -> io::Result<()> {
-    table::rows(
+    table::try_rows(
         b"\
         map (0, 4096), (4096, 1): 0 4096 1 4096 1 1\n\
         map (0, 4097), (4096, 1): 0 4097 1 4096 1 1\n\
@@ -32,7 +32,7 @@ fn order_and_range(rt: &impl Print) -> io::Result<()> {
 
 // In the last three, all entries are tried for a rule before the next rule.
 fn value_and_form(rt: &impl Print) -> io::Result<()> {
-    table::rows(
+    table::try_rows(
         b"\
         map of type 0: 4096 4096 0\n\
         map of type 4294967296: 4096 4096 4294967296\n\

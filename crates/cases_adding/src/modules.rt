@@ -25,7 +25,7 @@ fn members(rt: &impl Print, row: &[u8]) -> io::Result<()> {
 }
 
 fn places(rt: &impl Print) -> io::Result<()> {
-    table::rows(
+    table::try_rows(
         b"\
         module: 1 16777216 123457\n\
         module of type 0: 0 16777216 123457\n\
@@ -48,7 +48,7 @@ fn named(rt: &impl Print, row: &[u8]) -> io::Result<()> {
 }
 
 fn names(rt: &impl Print) -> io::Result<()> {
-    table::rows(
+    table::try_rows(
         b"\
         module, name of 0 bytes: \n\
         module, name of 63 bytes: nnnnnnnnnnnnnnnnnnnnnnnnnnnnnnnnnnnnnnnnnnnnnnnnnnnnnnnnnnnnnnn\n\
@@ -62,7 +62,7 @@ fn names(rt: &impl Print) -> io::Result<()> {
 
 // Two rules are broken; the lower number is given.
 fn two_rules(rt: &impl Print) -> io::Result<()> {
-    table::rows(
+    table::try_rows(
         b"\
         module of type 0, bad name: 0 16777216 123457 1\n\
         module, bad name, end above 2^64: 1 16777216 18446744073709551615 1\n",

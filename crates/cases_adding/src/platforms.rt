@@ -23,7 +23,7 @@ fn typed(rt: &impl Print, row: &[u8]) -> io::Result<()> {
 }
 
 fn types(rt: &impl Print) -> io::Result<()> {
-    table::rows(
+    table::try_rows(
         b"\
         platform: 3\n\
         platform of type 0: 0\n\
@@ -69,7 +69,7 @@ fn members(rt: &impl Print, row: &[u8]) -> io::Result<()> {
 
 // In the last two, two or three rules are broken; the lowest number is given.
 fn absent(rt: &impl Print) -> io::Result<()> {
-    table::rows(
+    table::try_rows(
         b"\
         platform without higher half base: 2 0 1 1 1\n\
         platform without depth: 2 1 0 1 1\n\
@@ -78,7 +78,7 @@ fn absent(rt: &impl Print) -> io::Result<()> {
         platform without depth, type 0, bad name: 0 1 0 1 1 1\n",
         |row| members(rt, row),
     )?;
-    table::rows(b"platform of type 0, bad name: 0 1\n", |row| typed(rt, row))
+    table::try_rows(b"platform of type 0, bad name: 0 1\n", |row| typed(rt, row))
 }
 
 fn named(rt: &impl Print, row: &[u8]) -> io::Result<()> {
@@ -88,7 +88,7 @@ fn named(rt: &impl Print, row: &[u8]) -> io::Result<()> {
 }
 
 fn names(rt: &impl Print) -> io::Result<()> {
-    table::rows(
+    table::try_rows(
         b"\
         platform, name of 0 bytes: \n\
         platform, name of 31 bytes: nnnnnnnnnnnnnnnnnnnnnnnnnnnnnnn\n\

@@ -70,7 +70,7 @@ fn every_start(rt: &impl Print, row: &[u8]) -> io::Result<()> {
 }
 
 pub fn every_type(rt: &impl Print) -> io::Result<()> {
-    table::rows(
+    table::try_rows(
         b"\
         index 0: 0\n\
         index 1: 1\n\
@@ -87,7 +87,7 @@ pub fn every_type(rt: &impl Print) -> io::Result<()> {
         index 18446744073709551615: 18446744073709551615\n",
         |row| every(rt, row),
     )?;
-    table::rows(
+    table::try_rows(
         b"\
         start alone of index 0: 0\n\
         start alone of index 4: 4\n\
@@ -112,7 +112,7 @@ fn platform(rt: &impl Print, row: &[u8]) -> io::Result<()> {
 }
 
 pub fn platforms(rt: &impl Print) -> io::Result<()> {
-    table::rows(
+    table::try_rows(
         b"\
         platform of 56 bytes: 56\n\
         platform of 64 bytes: 64\n\
@@ -155,7 +155,7 @@ fn count(rt: &impl Print, row: &[u8]) -> io::Result<()> {
 }
 
 pub fn refused(rt: &impl Print) -> io::Result<()> {
-    table::rows(
+    table::try_rows(
         b"\
         third of type 0, index 0: 0\n\
         third of type 0, index 2: 2\n\
@@ -164,7 +164,7 @@ pub fn refused(rt: &impl Print) -> io::Result<()> {
         |row| type_zero(rt, row),
     )?;
     start_of_type_zero(rt)?;
-    table::rows(
+    table::try_rows(
         b"\
         count 1, index 0: 1 0\n\
         count 1, index 1: 1 1\n\

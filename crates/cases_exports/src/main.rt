@@ -85,5 +85,5 @@ fn case(rt: &impl Print, row: &[u8]) -> io::Result<()> {
 fn main(rt: HostRuntime) -> io::Result<()> {
     let mut input = [0u8; 65536];
     let read = full_reads::read_full(&mut rt.stdin(), &mut input);
-    table::rows(&input[..read], |row| case(&rt, row))
+    table::try_rows(&input[..read], |row| case(&rt, row))
 }

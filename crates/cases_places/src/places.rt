@@ -5,7 +5,7 @@ use std::io;
 
 // First a platform, then a kernel, then neither.
 fn first_and_second(rt: &impl Print) -> io::Result<()> {
-    table::rows(
+    table::try_rows(
         b"\
         kernel first: 0 0 0 1024 2 0\n\
         map first: 0 0 0 1024 3 1\n\
@@ -29,7 +29,7 @@ fn first_and_second(rt: &impl Print) -> io::Result<()> {
 
 // Types that stand once, and modules, which stand together.
 fn repeats(rt: &impl Print) -> io::Result<()> {
-    table::rows(
+    table::try_rows(
         b"\
         map after a map: 2 3 0 1024 3 1\n\
         map of 4 numbers after a map: 2 3 0 1024 3 2\n\
@@ -49,7 +49,7 @@ fn repeats(rt: &impl Print) -> io::Result<()> {
 }
 
 fn rooms(rt: &impl Print) -> io::Result<()> {
-    table::rows(
+    table::try_rows(
         b"\
         platform in 96 bytes: 0 0 0 96 1 0\n\
         platform in 95 bytes: 0 0 0 95 1 0\n\
@@ -69,7 +69,7 @@ fn rooms(rt: &impl Print) -> io::Result<()> {
 
 // In fewer bytes than the context has, reading refuses it.
 fn more_rooms(rt: &impl Print) -> io::Result<()> {
-    table::rows(
+    table::try_rows(
         b"\
         module in 528 bytes: 2 0 0 528 4 0\n\
         module in 527 bytes: 2 0 0 527 4 0\n\

@@ -62,7 +62,7 @@ fn and_type_zero(rt: &impl Print, row: &[u8]) -> io::Result<()> {
 }
 
 fn lengths(rt: &impl Print) -> io::Result<()> {
-    table::rows(
+    table::try_rows(
         b"\
         two ranges into 0: 0\n\
         two ranges into 5: 5\n\
@@ -71,19 +71,19 @@ fn lengths(rt: &impl Print) -> io::Result<()> {
         two ranges into 8: 8\n",
         |row| of_two(rt, row),
     )?;
-    table::rows(
+    table::try_rows(
         b"\
         no map into 8: 8\n\
         no map into 0: 0\n",
         |row| none(rt, row),
     )?;
-    table::rows(
+    table::try_rows(
         b"\
         no ranges into 0: 0\n\
         no ranges into 8: 8\n",
         |row| of_none(rt, row),
     )?;
-    table::rows(
+    table::try_rows(
         b"\
         fourth of type 0 into 8: 8\n\
         fourth of type 0 into 0: 0\n",
@@ -105,7 +105,7 @@ fn after_a_module(rt: &impl Print, row: &[u8]) -> io::Result<()> {
 
 pub fn all(rt: &impl Print) -> io::Result<()> {
     lengths(rt)?;
-    table::rows(
+    table::try_rows(
         b"types of 64 bits after a module into 6: 6\n",
         |row| after_a_module(rt, row),
     )

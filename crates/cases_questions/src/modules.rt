@@ -26,7 +26,7 @@ fn one(rt: &impl Print, row: &[u8]) -> io::Result<()> {
 }
 
 fn ones(rt: &impl Print) -> io::Result<()> {
-    table::rows(
+    table::try_rows(
         b"\
         module of 5000 at 2097152: 2097152 5000 2097151\n\
         module of 5000 at 2097152: 2097152 5000 2097152\n\
@@ -86,7 +86,7 @@ fn two(rt: &impl Print, row: &[u8]) -> io::Result<()> {
 }
 
 fn twos(rt: &impl Print) -> io::Result<()> {
-    table::rows(
+    table::try_rows(
         b"\
         second starts lower: 8192 8192 4096 8192 4095\n\
         second starts lower: 8192 8192 4096 8192 4096\n\
@@ -136,20 +136,20 @@ fn and_type_zero(rt: &impl Print, row: &[u8]) -> io::Result<()> {
 }
 
 fn others(rt: &impl Print) -> io::Result<()> {
-    table::rows(
+    table::try_rows(
         b"\
         type 7 that looks like a module: 8192\n\
         type 7 that looks like a module: 12288\n",
         |row| seven_and_module(rt, row),
     )?;
-    table::rows(
+    table::try_rows(
         b"\
         no module: 0\n\
         no module: 47\n\
         no module: 4096\n",
         |row| none(rt, row),
     )?;
-    table::rows(
+    table::try_rows(
         b"\
         fourth of type 0: 4096\n\
         fourth of type 0: 0\n",

@@ -24,7 +24,7 @@ fn two_ranges(rt: &impl Print, row: &[u8]) -> io::Result<()> {
 }
 
 fn ranges(rt: &impl Print) -> io::Result<()> {
-    table::rows(
+    table::try_rows(
         b"\
         ranges (0, 4096), (4096, 1): 0 4096 4096 1\n\
         ranges (0, 4097), (4096, 1): 0 4097 4096 1\n\
@@ -42,7 +42,7 @@ fn one_range(rt: &impl Print, row: &[u8]) -> io::Result<()> {
 }
 
 fn range(rt: &impl Print) -> io::Result<()> {
-    table::rows(
+    table::try_rows(
         b"\
         range at 2^64 - 4096, size 4096: 32 18446744073709547520 4096 1\n\
         range at 2^64 - 4096, size 4097: 32 18446744073709547520 4097 1\n\
@@ -64,7 +64,7 @@ fn three_types(rt: &impl Print, row: &[u8]) -> io::Result<()> {
 }
 
 fn types(rt: &impl Print) -> io::Result<()> {
-    table::rows(
+    table::try_rows(
         b"\
         types 1, 2, 7, 7: 4 7 7 0\n\
         types 1, 2, 7, 8, 7: 5 7 8 7\n\
@@ -83,7 +83,7 @@ fn platform(rt: &impl Print, row: &[u8]) -> io::Result<()> {
 }
 
 fn platforms(rt: &impl Print) -> io::Result<()> {
-    table::rows(
+    table::try_rows(
         b"\
         platform of 56 bytes: 56 400\n\
         platform of 48 bytes: 48 1024\n\
@@ -101,7 +101,7 @@ fn third(rt: &impl Print, row: &[u8]) -> io::Result<()> {
 }
 
 fn thirds(rt: &impl Print) -> io::Result<()> {
-    table::rows(
+    table::try_rows(
         b"\
         size 0: 7 0\n\
         size 4294967288: 7 4294967288\n\
@@ -133,7 +133,7 @@ fn long_third(rt: &impl Print, row: &[u8]) -> io::Result<()> {
 }
 
 fn long_thirds(rt: &impl Print) -> io::Result<()> {
-    table::rows(
+    table::try_rows(
         b"\
         context that ends at 65536 of 70000: 7 65104\n\
         context that ends at 65544 of 70000: 7 65112\n",

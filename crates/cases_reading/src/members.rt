@@ -81,8 +81,8 @@ fn byte(rt: &impl Print, row: &[u8]) -> io::Result<()> {
 
 // The physical base is at 104, the virtual one at 112, the size at 120.
 fn kernels(rt: &impl Print) -> io::Result<()> {
-    table::rows(b"kernel of 328 bytes: 96 2 328\n", |row| halves(rt, row))?;
-    table::rows(
+    table::try_rows(b"kernel of 328 bytes: 96 2 328\n", |row| halves(rt, row))?;
+    table::try_rows(
         b"\
         kernel at physical 2048: 104 2048\n\
         kernel at physical 4096: 104 4096\n\
@@ -101,14 +101,14 @@ fn kernels(rt: &impl Print) -> io::Result<()> {
 
 // The type is at 444, after 4 reserved bytes; the address is at 512, the size at 520.
 fn modules(rt: &impl Print) -> io::Result<()> {
-    table::rows(
+    table::try_rows(
         b"\
         module of type 0: 440 0 0\n\
         module of type 2: 440 0 2\n\
         module of type 3: 440 0 3\n",
         |row| halves(rt, row),
     )?;
-    table::rows(
+    table::try_rows(
         b"\
         module at 2048: 512 2048\n\
         module at 4096: 512 4096\n\
@@ -121,7 +121,7 @@ fn modules(rt: &impl Print) -> io::Result<()> {
 
 // The address is at 568.
 fn framebuffers(rt: &impl Print) -> io::Result<()> {
-    table::rows(
+    table::try_rows(
         b"\
         format 0, 24 bits: 4 24 0\n\
         format 0, 32 bits: 4 32 0\n\
@@ -135,7 +135,7 @@ fn framebuffers(rt: &impl Print) -> io::Result<()> {
         pitch 3 for 32 bits: 3 32 3\n",
         |row| pixels(rt, row),
     )?;
-    table::rows(
+    table::try_rows(
         b"\
         framebuffer that ends at 2^64: 568 18446744073709551612\n\
         framebuffer that ends one past 2^64: 568 18446744073709551613\n",
@@ -144,7 +144,7 @@ fn framebuffers(rt: &impl Print) -> io::Result<()> {
 }
 
 fn texts(rt: &impl Print) -> io::Result<()> {
-    table::rows(
+    table::try_rows(
         b"\
         platform name of 32 bytes: 55 47\n\
         path of 256 bytes: 431 47\n\

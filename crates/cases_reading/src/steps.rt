@@ -30,7 +30,7 @@ fn step(rt: &impl Print, row: &[u8]) -> io::Result<()> {
 }
 
 pub fn all(rt: &impl Print) -> io::Result<()> {
-    table::rows(
+    table::try_rows(
         b"\
         step 0 at 8: 0 8\n\
         step 1 at 96: 1 96\n\
